@@ -87,6 +87,7 @@ impl Source for MemSource {
         ensures most { IfOk result (λ n. n ≡ min self.old.piece (min (length room.new) (length self.old.rest))) }
         ensures stays { (self.new.fail ≡ self.old.fail) × (self.new.piece ≡ self.old.piece) }
         ensures counted { self.new.calls ≡ calls_after self.old.calls }
+        ensures at_most_one { self.new.faults ≤ self.old.faults + 1 }
     {
         let read_fails = is_next_listed(self.calls, self.fail.as_slice());
         self.calls = self.calls.saturating_add(1);
@@ -171,6 +172,7 @@ impl Sink for MemSink {
         ensures most { IfOk result (λ n. n ≡ min self.old.piece (length piece.now)) }
         ensures stays { (self.new.fail ≡ self.old.fail) × (self.new.piece ≡ self.old.piece) }
         ensures counted { self.new.calls ≡ calls_after self.old.calls }
+        ensures at_most_one { self.new.faults ≤ self.old.faults + 1 }
     {
         let write_fails = is_next_listed(self.calls, self.fail.as_slice());
         self.calls = self.calls.saturating_add(1);

@@ -1,5 +1,4 @@
 use crate::{MemSink, MemSource, Sink, Source, StdSink, StdSource, WriteFault};
-use std::io::Cursor;
 use std::test::Fail;
 
 #[test]
@@ -43,7 +42,7 @@ fn std_source_reads_to_the_end(rt: HostRuntime) -> Result<(), Fail> {
 #[test]
 fn std_sink_counts_taking_nothing_as_a_fault(rt: HostRuntime) -> Result<(), Fail> {
     let mut room = [0; 2];
-    let mut sink = StdSink::new(Cursor::new(&mut room));
+    let mut sink = StdSink::new(room.as_mut_slice());
     assert_eq!(rt; sink.write(b"abc").ok(), Some(2));
     assert!(rt; matches!(sink.write(b"c"), Err(WriteFault::Failed)));
     Ok(())
