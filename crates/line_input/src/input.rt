@@ -1,0 +1,177 @@
+ghost use Rattle.std.specs.Prelude.{◌≡◌, ◌==◌, ◌<◌, ◌≤◌, ◌+◌, [], ◌∷◌, ◌++◌, length, take, IfOk, OnOk, OnErr};
+ghost use Rattle.std.specs.Io.KnownBytes.{Consumes, Keeps};
+ghost use Rattle.net_io.specs.Streams.{CanCount};
+
+use net_io::{Failed, Source};
+
+/// The most bytes of a line, without its line feed.
+pub const LINE_LIMIT: usize = 512;
+
+/// The most bytes of an input.
+pub const INPUT_LIMIT: usize = 16_777_216;
+
+/// The most bytes that are asked for at once.
+const PIECE: usize = 4096;
+
+const LINE_FEED: u8 = 10;
+
+/// What was met.
+#[derive(Clone, Copy, Debug, PartialEq, Eq)]
+pub enum Met {
+    /// A line, or one byte more than a line may have.
+    Line,
+    /// The end of the input, with no byte of a line before it.
+    End,
+}
+
+/// Why no line was met.
+#[derive(Clone, Copy, Debug, PartialEq, Eq)]
+pub enum InputFault {
+    /// The source failed.
+    Read,
+    /// The input has more bytes than it may have.
+    TooLong,
+}
+
+// Reads at most so many bytes to the front of the piece.
+fn read_front<S: Source>(source: &mut S, piece: &mut [u8], most: usize) -> Result<usize, Failed>
+    requires count { CanCount (S.faults source.old) }
+    requires some { 0 < most }
+    requires fits { most ≤ length piece.old }
+    ensures bound { IfOk result (λ n. n ≤ most) }
+    ensures bytes { IfOk result (λ n. Consumes (S.left source.old) (S.left source.new) (take n piece.new)) }
+    ensures end { IfOk result (λ n. S.ended source.new ≡ (n == 0)) }
+    ensures kept { OnOk result (S.faults source.new ≡ S.faults source.old) }
+    ensures failed { OnErr result (S.faults source.old < S.faults source.new) }
+    ensures left { OnErr result (Keeps (S.left source.old) (S.left source.new)) }
+{
+    source.read(&mut piece[..most])
+}
+
+/// The bytes that a source gave, cut into lines.
+#[derive(Drop)]
+pub struct Input {
+    piece: [u8; 4096],
+    at: usize,
+    filled: usize,
+    given: usize,
+    line: [u8; 513],
+    length: usize,
+    pub ghost in_piece: { at ≤ filled },
+    pub ghost piece_fits: { filled ≤ 4096 },
+    pub ghost line_fits: { length ≤ 513 },
+}
+
+impl Input {
+    ghost use Rattle.line_input.specs.Lines.{input_limit, line_limit};
+    ghost use Rattle.line_input.specs.Looks.{held, line_of, Looks};
+    ghost use Rattle.line_input.specs.Steps.{Fills, Takes};
+
+    /// No bytes yet.
+    pub fn new() -> Input
+        ensures held { held result ≡ [] }
+        ensures given { result.given ≡ 0 }
+    {
+        Input {
+            piece: [0; PIECE],
+            at: 0,
+            filled: 0,
+            given: 0,
+            line: [0; LINE_LIMIT + 1],
+            length: 0,
+        }
+    }
+
+    /// The line that was met last.
+    pub fn line(&self) -> &[u8]
+        ensures { result.now ≡ line_of self.now }
+    {
+        &self.line[..self.length]
+    }
+
+    // Asks for a piece, where no byte is held.
+    fn fill<S: Source>(&mut self, source: &mut S) -> Result<usize, InputFault>
+        requires count { CanCount (S.faults source.old) }
+        requires none { self.old.at ≡ self.old.filled }
+        requires within { self.old.given ≤ input_limit }
+        ensures { Fills self.old self.new
+            (record { left = S.left source.old; faults = S.faults source.old; ended = S.ended source.old })
+            (record { left = S.left source.new; faults = S.faults source.new; ended = S.ended source.new }) result }
+    {
+        let most = PIECE.min((INPUT_LIMIT - self.given).max(1));
+        match read_front(source, &mut self.piece, most) {
+            Err(_) => Err(InputFault::Read),
+            Ok(count) => {
+                self.at = 0;
+                self.filled = count;
+                self.given += count;
+                if self.given > INPUT_LIMIT {
+                    Err(InputFault::TooLong)
+                } else {
+                    Ok(count)
+                }
+            }
+        }
+    }
+    // Takes the first byte that is held.
+    fn take_held(&mut self) -> u8
+        requires { self.old.at < self.old.filled }
+        ensures held { held self.old ≡ result ∷ held self.new }
+        ensures given { self.new.given ≡ self.old.given }
+        ensures line { line_of self.new ≡ line_of self.old }
+        ensures length { self.new.length ≡ self.old.length }
+    {
+        let byte = self.piece[self.at];
+        self.at += 1;
+        byte
+    }
+
+    // Takes the next byte, or none at the end of the input.
+    fn next_byte<S: Source>(&mut self, source: &mut S) -> Result<Option<u8>, InputFault>
+        requires count { CanCount (S.faults source.old) }
+        requires within { self.old.given ≤ input_limit }
+        ensures { Takes self.old self.new
+            (record { left = S.left source.old; faults = S.faults source.old; ended = S.ended source.old })
+            (record { left = S.left source.new; faults = S.faults source.new; ended = S.ended source.new }) result }
+    {
+        if self.at < self.filled {
+            return Ok(Some(self.take_held()));
+        }
+        match self.fill(source)? {
+            0 => Ok(None),
+            _ => Ok(Some(self.take_held())),
+        }
+    }
+    // Puts a byte at the end of the line.
+    fn keep(&mut self, byte: u8)
+        requires { self.old.length ≤ line_limit }
+        ensures held { held self.new ≡ held self.old }
+        ensures given { self.new.given ≡ self.old.given }
+        ensures line { line_of self.new ≡ line_of self.old ++ byte ∷ [] }
+        ensures length { self.new.length ≡ self.old.length + 1 }
+    {
+        self.line[self.length] = byte;
+        self.length += 1;
+    }
+
+    /// Looks for the next line. The line that was met before is given up.
+    pub fn next_line<S: Source>(&mut self, source: &mut S) -> Result<Met, InputFault>
+        requires count { CanCount (S.faults source.old) }
+        requires within { self.old.given ≤ input_limit }
+        ensures { Looks (held self.old) self.old.given self.new
+            (record { left = S.left source.old; faults = S.faults source.old; ended = S.ended source.old })
+            (record { left = S.left source.new; faults = S.faults source.new; ended = S.ended source.new }) result }
+    {
+        self.length = 0;
+        while self.length <= LINE_LIMIT {
+            match self.next_byte(source) {
+                Err(fault) => return Err(fault),
+                Ok(None) if self.length == 0 => return Ok(Met::End),
+                Ok(None) => return Ok(Met::Line),
+                Ok(Some(LINE_FEED)) => return Ok(Met::Line),
+                Ok(Some(byte)) => self.keep(byte),
+            }
+        }
+        Ok(Met::Line)
+    }
+}
