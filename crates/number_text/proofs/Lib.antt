@@ -1,0 +1,4 @@
+pub mod Numerals
+pub mod Appending
+pub mod Written
+pub mod Spelled
