@@ -1,0 +1,3 @@
+pub mod Disjoint
+pub mod Same
+pub mod Shared

@@ -1,0 +1,80 @@
+-- Ranges and lists of ranges meet exactly where they share a UID.
+use Rattle.std.proofs.Common.{◌≡◌, ◌||◌, ◌&&◌, ◌<◌, ◌≤◌, ◌⊎◌, ℕ, zero, suc, Bool, true, false, cond, List, [], ◌∷◌, Some, refl, inl, inr, arith, nat_le, slice_get, IsSomeAnd}
+use Rattle.std.proofs.lemmas.Bool.Decides.{nat_tests}
+use Rattle.std.specs.List.{list_any}
+use Rattle.uid_ranges.specs.declared.range.UidRange.{UidRange}
+use Rattle.uid_ranges.specs.Range.{holds, meets}
+use Rattle.uid_ranges.specs.Ranges.{meets_any, self_meets, TwoShareUid}
+
+-- the later of the two first UIDs is in both
+pub shared_of-meets : (one other : UidRange) → meets one other ≡ true → (uid : ℕ) × (holds one uid ≡ true) × (holds other uid ≡ true)
+shared_of-meets one other h =
+    later_first one.first.number one.last.number other.first.number other.last.number one.ordered other.ordered h
+  where
+    later_first : (a b c d : ℕ) → a ≤ b → c ≤ d → (nat_le a d && nat_le c b) ≡ true
+        → (uid : ℕ) × ((nat_le a uid && nat_le uid b) ≡ true) × ((nat_le c uid && nat_le uid d) ≡ true)
+    later_first a b c d ab cd h = (cond (nat_le a c) c a, grind (arith, nat_tests), grind (arith, nat_tests))
+
+pub meets_from_shared : (one other : UidRange) (uid : ℕ) → holds one uid ≡ true → holds other uid ≡ true → meets one other ≡ true
+meets_from_shared one other uid h k = grind (arith, nat_tests)
+
+either : (a b : Bool) → (a || b) ≡ true → (a ≡ true) ⊎ (b ≡ true)
+either true b h = inl refl
+either false b h = inr h
+
+-- a place whose element passes the test
+found : (p : UidRange → Bool) (xs : List UidRange) → list_any p xs ≡ true → (k : ℕ) × (x : UidRange) × (slice_get xs k ≡ Some x) × (p x ≡ true)
+found p [] h = cc
+found p (x ∷ xs) h = elim (either (p x) (list_any p xs) h) [
+  | inl here ↦ (0, x, refl, here)
+  | inr there ↦ let it = found p xs there in (suc it.0, it.1, it.2, it.3)
+]
+
+pub shared_of-self_meets : (xs : List UidRange) → self_meets xs ≡ true → TwoShareUid xs
+shared_of-self_meets [] h = cc
+shared_of-self_meets (x ∷ xs) h = elim (either (meets_any x xs) (self_meets xs) h) [
+  | inl here ↦
+      let it = found (meets x) xs here in
+      let both = shared_of-meets x it.1 it.3 in
+      record {
+        earlier = 0;
+        later = suc it.0;
+        uid = both.0;
+        in_order = omega arith;
+        holds_earlier = both.1;
+        holds_later = rw it.2 both.2;
+      }
+  | inr there ↦
+      let rest = shared_of-self_meets xs there in
+      let below = rest.in_order in
+      record {
+        earlier = suc rest.earlier;
+        later = suc rest.later;
+        uid = rest.uid;
+        in_order = omega arith;
+        holds_earlier = rest.holds_earlier;
+        holds_later = rest.holds_later;
+      }
+]
+
+-- a range meets a list that holds one of its UIDs
+meets_any_at : (x : UidRange) (xs : List UidRange) (k uid : ℕ) → holds x uid ≡ true → IsSomeAnd (slice_get xs k) (λ y. holds y uid ≡ true) → meets_any x xs ≡ true
+meets_any_at x [] k uid h there = elim there [ ]
+meets_any_at x (y ∷ ys) zero uid h there = rw (meets_from_shared x y uid h there) refl
+meets_any_at x (y ∷ ys) (suc k) uid h there = rw (meets_any_at x ys k uid h there) (last (meets x y))
+  where
+    last : (b : Bool) → (b || true) ≡ true
+    last true = refl
+    last false = refl
+
+pub self_meets_at : (xs : List UidRange) (i j uid : ℕ) → i < j → IsSomeAnd (slice_get xs i) (λ y. holds y uid ≡ true) → IsSomeAnd (slice_get xs j) (λ y. holds y uid ≡ true) → self_meets xs ≡ true
+self_meets_at [] i j uid h here there = elim here [ ]
+self_meets_at (x ∷ xs) i zero uid h here there = absurd (omega arith)
+self_meets_at (x ∷ xs) zero (suc j) uid h here there = rw (meets_any_at x xs j uid here there) refl
+self_meets_at (x ∷ xs) (suc i) (suc j) uid h here there =
+    let below : i < j = omega arith in
+    rw (self_meets_at xs i j uid below here there) (last (meets_any x xs))
+  where
+    last : (b : Bool) → (b || true) ≡ true
+    last true = refl
+    last false = refl

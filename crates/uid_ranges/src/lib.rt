@@ -1,0 +1,8 @@
+//! UIDs, ranges of UIDs with both ends included, and lists of disjoint ranges.
+#![tactic(auto)]
+
+mod list;
+mod range;
+
+pub use list::{RangeList, self_meets};
+pub use range::{Uid, UidRange};
