@@ -1,0 +1,4 @@
+pub mod Addr
+pub mod Prefix
+pub mod Route
+pub mod Best
