@@ -1,0 +1,11 @@
+pub mod KindLaws
+pub mod Kind
+pub mod Same
+pub mod State
+pub mod Journal
+pub mod View
+pub mod Walk
+pub mod PlanView
+pub mod Segment
+pub mod Moments
+pub mod Stands

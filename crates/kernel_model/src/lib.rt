@@ -1,0 +1,13 @@
+//! A kernel by policy routing: the requests that it is asked, the journal of what became of them, and the rules and
+//! routes that the journal leaves.
+#![tactic(auto)]
+
+mod kernel;
+mod plan;
+mod request;
+mod step;
+
+pub use kernel::{Armed, Kernel, KernelFault, ask_add, ask_delete};
+pub use plan::Plan;
+pub use request::{Entry, EntryKind, Request};
+pub use step::Step;

@@ -1,0 +1,16 @@
+pub mod Membership
+pub mod Orders
+pub mod Leading
+pub mod Moments
+pub mod Numbers
+pub mod Adding
+pub mod Deleting
+pub mod Classes
+pub mod Undoing
+pub mod Walks
+pub mod Law
+pub mod Statements
+pub mod Turning
+pub mod Keys
+pub mod Beside
+pub mod Asking
