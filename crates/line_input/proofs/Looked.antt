@@ -48,12 +48,14 @@ module _ (start : List ℕ) (count : ℕ) (mid new : Input) (b m a : Outside) (l
     taken = both_taken (Err Read) t;
     counted = both_counted (Err Read) t;
     one_line = line_same (Err Read) t;
+    finished = t.finished;
     found = (
       bytes_so_far (Err Read) t ∙ (ap (λ (xs : List ℕ). line_of mid ++ xs) t.byte.0 ∙ (append-nil (line_of mid) ∙ sym t.line_kept)),
       omega (arith, ap length t.line_kept, l.length_is),
       t.byte.1,
       t.byte.2,
       omega (arith, t.byte.3, l.no_fault),
+      t.byte.4,
     );
   }
 
@@ -63,12 +65,14 @@ module _ (start : List ℕ) (count : ℕ) (mid new : Input) (b m a : Outside) (l
     taken = both_taken (Err TooLong) t;
     counted = both_counted (Err TooLong) t;
     one_line = line_same (Err TooLong) t;
+    finished = t.finished;
     found = (
       bytes_so_far (Err TooLong) t ∙ (ap (λ (xs : List ℕ). line_of mid ++ xs) t.byte.0 ∙ ap (λ (xs : List ℕ). xs ++ held new) (sym t.line_kept)),
       omega (arith, ap length t.line_kept, l.length_is),
       t.byte.1,
       t.byte.2,
       t.byte.3 ∙ l.no_fault,
+      t.byte.4,
     );
   }
 
@@ -78,6 +82,7 @@ module _ (start : List ℕ) (count : ℕ) (mid new : Input) (b m a : Outside) (l
     taken = both_taken (Ok None) t;
     counted = both_counted (Ok None) t;
     one_line = line_same (Ok None) t;
+    finished = t.finished;
     found =
         let empty : line_of mid ≡ [] = no_length (line_of mid) (l.length_is ∙ none) in (
           bytes_so_far (Ok None) t ∙ (ap (λ (xs : List ℕ). line_of mid ++ xs) t.byte.0 ∙ (append-nil (line_of mid) ∙ empty)),
@@ -99,6 +104,7 @@ module _ (start : List ℕ) (count : ℕ) (mid new : Input) (b m a : Outside) (l
     taken = both_taken (Ok None) t;
     counted = both_counted (Ok None) t;
     one_line = line_same (Ok None) t;
+    finished = t.finished;
     found = (
       (
         line_of new,
@@ -116,6 +122,7 @@ module _ (start : List ℕ) (count : ℕ) (mid new : Input) (b m a : Outside) (l
     taken = both_taken (Ok (Some line_feed)) t;
     counted = both_counted (Ok (Some line_feed)) t;
     one_line = line_same (Ok (Some line_feed)) t;
+    finished = t.finished;
     found = (
       (
         line_of new ++ line_feed ∷ [],
@@ -130,9 +137,9 @@ module _ (start : List ℕ) (count : ℕ) (mid new : Input) (b m a : Outside) (l
 
   -- the byte is kept, and looking goes on
   pub looking_on : (byte : ℕ) (next : Input) → Takes mid new m a (Ok (Some byte)) → byte ≢ line_feed
-      → held next ≡ held new → next.given ≡ new.given → line_of next ≡ line_of new ++ byte ∷ [] → next.length ≡ new.length + 1
+      → held next ≡ held new → next.given ≡ new.given → line_of next ≡ line_of new ++ byte ∷ [] → next.length ≡ new.length + 1 → next.finished ≡ new.finished
       → Looking start count next b a
-  looking_on byte next t other same_held same_given grown longer = record {
+  looking_on byte next t other same_held same_given grown longer ends = record {
     more = l.more ++ t.more;
     taken = both_taken (Ok (Some byte)) t;
     counted = same_given ∙ both_counted (Ok (Some byte)) t;
@@ -145,6 +152,7 @@ module _ (start : List ℕ) (count : ℕ) (mid new : Input) (b m a : Outside) (l
     length_is = omega (arith, ap length grown, length-append (line_of new) (byte ∷ []), ap length t.line_kept, l.length_is, longer, t.length_kept);
     within = omega (arith, same_given, t.byte.1);
     no_fault = t.byte.2 ∙ l.no_fault;
+    finished = ends ∙ t.finished;
   }
 
 pub looks_long_line : (start : List ℕ) (count : ℕ) (mid : Input) (b m : Outside) → Looking start count mid b m → line_limit < mid.length → Looks start count mid b m (Ok Line)
@@ -153,6 +161,7 @@ looks_long_line start count mid b m l long = record {
   taken = l.taken;
   counted = l.counted;
   one_line = l.one_line;
+  finished = l.finished;
   found = ((line_of mid, l.bytes, inr (inl (refl, omega (arith, l.length_is)))), l.within, l.no_fault);
 }
 
@@ -173,6 +182,6 @@ module _ (start : List ℕ) (count : ℕ) (mid new : Input) (b m a : Outside) (l
   at_feed e short = looks_fed start count mid new b m a l (subst (λ x. Takes mid new m a x) e t) short
 
   pub at_byte : (byte : ℕ) (next : Input) → r ≡ Ok (Some byte) → byte ≢ line_feed
-      → held next ≡ held new → next.given ≡ new.given → line_of next ≡ line_of new ++ byte ∷ [] → next.length ≡ new.length + 1
+      → held next ≡ held new → next.given ≡ new.given → line_of next ≡ line_of new ++ byte ∷ [] → next.length ≡ new.length + 1 → next.finished ≡ new.finished
       → Looking start count next b a
   at_byte byte next e other = looking_on start count mid new b m a l byte next (subst (λ x. Takes mid new m a x) e t) other

@@ -1,5 +1,5 @@
 -- What looking for the next line does.
-use Rattle.std.specs.Prelude.{◌≡◌, ◌⊎◌, ℕ, ◌+◌, ◌<◌, ◌≤◌, Bool, true, List, [], ◌++◌, take, drop, length, Option, Result, Ok, Err}
+use Rattle.std.specs.Prelude.{◌≡◌, ◌⊎◌, ℕ, ◌+◌, ◌<◌, ◌≤◌, Bool, true, false, List, [], ◌++◌, take, drop, length, Option, Result, Ok, Err}
 use Rattle.std.specs.Io.KnownBytes.{Consumes}
 use Rattle.line_input.specs.Lines.{IsOneLine, fed, line_limit, input_limit}
 use Rattle.line_input.specs.declared.input.Input.{Input}
@@ -36,9 +36,9 @@ Found (Ok Line) line bytes behind count old new =
 Found (Ok End) line bytes behind count old new =
     (bytes ≡ []) × (line ≡ []) × (behind ≡ []) × (count ≤ input_limit) × (new.faults ≡ old.faults) × (new.ended ≡ true)
 Found (Err Read) line bytes behind count old new =
-    (bytes ≡ line) × (length line ≤ line_limit) × (behind ≡ []) × (count ≤ input_limit) × (old.faults < new.faults)
+    (bytes ≡ line) × (length line ≤ line_limit) × (behind ≡ []) × (count ≤ input_limit) × (old.faults < new.faults) × (new.ended ≡ false)
 Found (Err TooLong) line bytes behind count old new =
-    (bytes ≡ line ++ behind) × (length line ≤ line_limit) × (length behind ≡ 1) × (count ≡ input_limit + 1) × (new.faults ≡ old.faults)
+    (bytes ≡ line ++ behind) × (length line ≤ line_limit) × (length behind ≡ 1) × (count ≡ input_limit + 1) × (new.faults ≡ old.faults) × (new.ended ≡ false)
 
 -- Behind the bytes that were held, of so many that were given, the source gave some more. Together they are the line,
 -- and what is held now.
@@ -47,4 +47,5 @@ pub record Looks (bytes : List ℕ) (count : ℕ) (new : Input) (before after : 
   pub taken : Consumes before.left after.left more
   pub counted : new.given ≡ count + length more
   pub one_line : IsOneLine (line_of new)
+  pub finished : new.finished ≡ after.ended
   pub found : Found result (line_of new) (bytes ++ more) (held new) new.given before after

@@ -1,5 +1,5 @@
 -- What reading one piece, and taking one byte, does to an input.
-use Rattle.std.specs.Prelude.{◌≡◌, ℕ, ◌+◌, ◌<◌, ◌≤◌, ◌==◌, true, List, [], ◌∷◌, ◌++◌, length, Option, Some, None, Result, Ok, Err}
+use Rattle.std.specs.Prelude.{false, ◌≡◌, ℕ, ◌+◌, ◌<◌, ◌≤◌, ◌==◌, true, List, [], ◌∷◌, ◌++◌, length, Option, Some, None, Result, Ok, Err}
 use Rattle.std.specs.Io.KnownBytes.{Consumes}
 use Rattle.line_input.specs.Lines.{IsOneLine, input_limit}
 use Rattle.line_input.specs.Looks.{Outside, held, line_of}
@@ -11,9 +11,9 @@ use Rattle.line_input.specs.declared.input.InputFault.TheVariants.{Read, TooLong
 abbrev pub Filled : Result ℕ InputFault → (more behind : List ℕ) (count : ℕ) (old new : Outside) → Type 0
 Filled (Ok n) more behind count old new =
     (behind ≡ more) × (length more ≡ n) × (count ≤ input_limit) × (new.faults ≡ old.faults) × (new.ended ≡ (n == 0))
-Filled (Err Read) more behind count old new = (behind ≡ []) × (more ≡ []) × (count ≤ input_limit) × (old.faults < new.faults)
+Filled (Err Read) more behind count old new = (behind ≡ []) × (more ≡ []) × (count ≤ input_limit) × (old.faults < new.faults) × (new.ended ≡ false)
 Filled (Err TooLong) more behind count old new =
-    (behind ≡ more) × (length more ≡ 1) × (count ≡ input_limit + 1) × (new.faults ≡ old.faults)
+    (behind ≡ more) × (length more ≡ 1) × (count ≡ input_limit + 1) × (new.faults ≡ old.faults) × (new.ended ≡ false)
 
 -- a piece was asked for, with no byte held
 pub record Fills (old new : Input) (before after : Outside) (result : Result ℕ InputFault) : Type 0 where
@@ -22,6 +22,7 @@ pub record Fills (old new : Input) (before after : Outside) (result : Result ℕ
   pub counted : new.given ≡ old.given + length more
   pub line_kept : line_of new ≡ line_of old
   pub length_kept : new.length ≡ old.length
+  pub finished : new.finished ≡ after.ended
   pub filled : Filled result more (held new) new.given before after
 
 -- what became of the bytes when one was asked for, by the answer
@@ -29,9 +30,9 @@ abbrev pub Taken : Result (Option ℕ) InputFault → (bytes behind : List ℕ) 
 Taken (Ok (Some byte)) bytes behind count old new = (bytes ≡ byte ∷ behind) × (count ≤ input_limit) × (new.faults ≡ old.faults)
 Taken (Ok None) bytes behind count old new =
     (bytes ≡ []) × (behind ≡ []) × (count ≤ input_limit) × (new.faults ≡ old.faults) × (new.ended ≡ true)
-Taken (Err Read) bytes behind count old new = (bytes ≡ []) × (behind ≡ []) × (count ≤ input_limit) × (old.faults < new.faults)
+Taken (Err Read) bytes behind count old new = (bytes ≡ []) × (behind ≡ []) × (count ≤ input_limit) × (old.faults < new.faults) × (new.ended ≡ false)
 Taken (Err TooLong) bytes behind count old new =
-    (bytes ≡ behind) × (length behind ≡ 1) × (count ≡ input_limit + 1) × (new.faults ≡ old.faults)
+    (bytes ≡ behind) × (length behind ≡ 1) × (count ≡ input_limit + 1) × (new.faults ≡ old.faults) × (new.ended ≡ false)
 
 -- one byte was asked for
 pub record Takes (old new : Input) (before after : Outside) (result : Result (Option ℕ) InputFault) : Type 0 where
@@ -40,6 +41,7 @@ pub record Takes (old new : Input) (before after : Outside) (result : Result (Op
   pub counted : new.given ≡ old.given + length more
   pub line_kept : line_of new ≡ line_of old
   pub length_kept : new.length ≡ old.length
+  pub finished : new.finished ≡ after.ended
   pub byte : Taken result (held old ++ more) (held new) new.given before after
 
 -- how far looking for a line has come, from the bytes that were held at its start
@@ -52,3 +54,4 @@ pub record Looking (start : List ℕ) (count : ℕ) (new : Input) (before after 
   pub length_is : length (line_of new) ≡ new.length
   pub within : new.given ≤ input_limit
   pub no_fault : after.faults ≡ before.faults
+  pub finished : new.finished ≡ after.ended

@@ -1,4 +1,4 @@
-ghost use Rattle.std.specs.Prelude.{◌≡◌, ◌==◌, ◌<◌, ◌≤◌, ◌+◌, [], ◌∷◌, ◌++◌, length, take, IfOk, OnOk, OnErr};
+ghost use Rattle.std.specs.Prelude.{◌≡◌, false, ◌==◌, ◌<◌, ◌≤◌, ◌+◌, [], ◌∷◌, ◌++◌, length, take, IfOk, OnOk, OnErr};
 ghost use Rattle.std.specs.Io.KnownBytes.{Consumes, Keeps};
 ghost use Rattle.net_io.specs.Streams.{CanCount};
 
@@ -44,6 +44,7 @@ fn read_front<S: Source>(source: &mut S, piece: &mut [u8], most: usize) -> Resul
     ensures kept { OnOk result (S.faults source.new ≡ S.faults source.old) }
     ensures failed { OnErr result (S.faults source.old < S.faults source.new) }
     ensures left { OnErr result (Keeps (S.left source.old) (S.left source.new)) }
+    ensures not_ended { OnErr result (S.ended source.new ≡ false) }
 {
     source.read(&mut piece[..most])
 }
@@ -57,6 +58,7 @@ pub struct Input {
     given: usize,
     line: [u8; 513],
     length: usize,
+    finished: bool,
     pub ghost in_piece: { at ≤ filled },
     pub ghost piece_fits: { filled ≤ 4096 },
     pub ghost line_fits: { length ≤ 513 },
@@ -71,6 +73,7 @@ impl Input {
     pub fn new() -> Input
         ensures held { held result ≡ [] }
         ensures given { result.given ≡ 0 }
+        ensures finished { result.finished ≡ false }
     {
         Input {
             piece: [0; PIECE],
@@ -79,6 +82,7 @@ impl Input {
             given: 0,
             line: [0; LINE_LIMIT + 1],
             length: 0,
+            finished: false,
         }
     }
 
@@ -93,7 +97,9 @@ impl Input {
     fn fill<S: Source>(&mut self, source: &mut S) -> Result<usize, InputFault>
         requires count { CanCount (S.faults source.old) }
         requires none { self.old.at ≡ self.old.filled }
+        requires goes_on { self.old.finished ≡ false }
         requires within { self.old.given ≤ input_limit }
+        requires end { self.old.finished ≡ S.ended source.old }
         ensures { Fills self.old self.new
             (record { left = S.left source.old; faults = S.faults source.old; ended = S.ended source.old })
             (record { left = S.left source.new; faults = S.faults source.new; ended = S.ended source.new }) result }
@@ -105,6 +111,7 @@ impl Input {
                 self.at = 0;
                 self.filled = count;
                 self.given += count;
+                self.finished = count == 0;
                 if self.given > INPUT_LIMIT {
                     Err(InputFault::TooLong)
                 } else {
@@ -120,6 +127,7 @@ impl Input {
         ensures given { self.new.given ≡ self.old.given }
         ensures line { line_of self.new ≡ line_of self.old }
         ensures length { self.new.length ≡ self.old.length }
+        ensures finished { self.new.finished ≡ self.old.finished }
     {
         let byte = self.piece[self.at];
         self.at += 1;
@@ -130,12 +138,16 @@ impl Input {
     fn next_byte<S: Source>(&mut self, source: &mut S) -> Result<Option<u8>, InputFault>
         requires count { CanCount (S.faults source.old) }
         requires within { self.old.given ≤ input_limit }
+        requires end { self.old.finished ≡ S.ended source.old }
         ensures { Takes self.old self.new
             (record { left = S.left source.old; faults = S.faults source.old; ended = S.ended source.old })
             (record { left = S.left source.new; faults = S.faults source.new; ended = S.ended source.new }) result }
     {
         if self.at < self.filled {
             return Ok(Some(self.take_held()));
+        }
+        if self.finished {
+            return Ok(None);
         }
         match self.fill(source)? {
             0 => Ok(None),
@@ -149,6 +161,7 @@ impl Input {
         ensures given { self.new.given ≡ self.old.given }
         ensures line { line_of self.new ≡ line_of self.old ++ byte ∷ [] }
         ensures length { self.new.length ≡ self.old.length + 1 }
+        ensures finished { self.new.finished ≡ self.old.finished }
     {
         self.line[self.length] = byte;
         self.length += 1;
@@ -158,6 +171,7 @@ impl Input {
     pub fn next_line<S: Source>(&mut self, source: &mut S) -> Result<Met, InputFault>
         requires count { CanCount (S.faults source.old) }
         requires within { self.old.given ≤ input_limit }
+        requires end { self.old.finished ≡ S.ended source.old }
         ensures { Looks (held self.old) self.old.given self.new
             (record { left = S.left source.old; faults = S.faults source.old; ended = S.ended source.old })
             (record { left = S.left source.new; faults = S.faults source.new; ended = S.ended source.new }) result }

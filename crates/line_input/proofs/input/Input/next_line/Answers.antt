@@ -19,7 +19,7 @@ returns-in-Ok-Some-eq10 g c =
 
 pub loop-self-preserved : goal.loop-self-preserved
 loop-self-preserved g c =
-    at_byte _ _ _ _ _ _ _ c.loop-self.invariant _ c.next_byte.ensures _ _ (c.in-Ok-Some.is ∙ ap (λ x. Ok x) c.in-Ok-Some.field-0-is) c.in-Ok-Some.byte-test.1 c.keep.ensures.held c.keep.ensures.given c.keep.ensures.line c.keep.ensures.length
+    at_byte _ _ _ _ _ _ _ c.loop-self.invariant _ c.next_byte.ensures _ _ (c.in-Ok-Some.is ∙ ap (λ x. Ok x) c.in-Ok-Some.field-0-is) c.in-Ok-Some.byte-test.1 c.keep.ensures.held c.keep.ensures.given c.keep.ensures.line c.keep.ensures.length c.keep.ensures.finished
 
 pub returns : goal.returns
 returns g c = looks_long_line _ _ _ _ _ c.loop-self.invariant c.loop-self-test.false

@@ -1,0 +1,3 @@
+pub mod View
+pub mod Applied
+pub mod Started

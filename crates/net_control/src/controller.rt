@@ -1,0 +1,144 @@
+ghost use Rattle.std.specs.Prelude.{◌≡◌, ◌≤◌, ◌+◌, ◌*◌, [], OnOk, IfOk, length};
+ghost use Rattle.kernel_model.specs.View.{grown};
+ghost use Rattle.policy_state.specs.View.{start};
+
+use kernel_model::{Kernel, Plan};
+use net_names::Code;
+use plan_exec::{Carried, carry};
+use policy_state::{Command, State, StepFault};
+use rule_compile::{plan, start_plan};
+use std::alloc::{AllocError, Global};
+use std::marker::Model;
+use thiserror::Error;
+
+/// The most entries that a journal may have.
+pub const JOURNAL_LIMIT: u64 = 1_000_000;
+
+/// Why a controller didn't start. A request's number is its place in the kernel's journal, counted from 1.
+#[derive(Debug, Drop, Error)]
+pub enum StartFault {
+    /// This request was refused, and those before it were undone.
+    #[error("refused at request {request}")]
+    Refused { request: u64 },
+    /// This deletion broke.
+    #[error("halted at request {request}")]
+    Halted { request: u64 },
+    #[error(transparent)]
+    Memory(AllocError),
+}
+
+/// What became of a command.
+#[derive(Clone, Copy, Debug, PartialEq, Eq)]
+pub enum Answer {
+    Done,
+    Refused { code: Code },
+    /// The kernel refused this request, and those before it were undone.
+    KernelRefused { request: u64 },
+    /// This deletion broke, now or at an earlier command. Nothing is asked any more.
+    Halted { request: u64 },
+    NoMemory,
+}
+
+/// The state of the policy, and whether the kernel can still be brought to it.
+#[derive(Drop)]
+pub struct Controller {
+    alloc: Global,
+    state: State,
+    halted: Option<u64>,
+}
+
+impl Model for Controller {
+    ghost use Rattle.net_control.specs.View.{ControllerView};
+
+    ghost Value = { ControllerView };
+
+    ghost view = { λ c. record { state = c.state; halted = c.halted } };
+}
+
+// The most requests that carrying a plan takes: each addition may have to be undone.
+fn most_requests(plan: &Plan) -> u64 {
+    2 * plan.adds().len() as u64 + plan.deletes().len() as u64
+}
+
+impl Controller {
+    ghost use Rattle.net_control.specs.Started.{IsStarted};
+    ghost use Rattle.net_control.specs.Applied.{IsAnswered};
+    ghost use Rattle.net_control.specs.View.{IsKept};
+
+    /// Asks a starting kernel for the rules of the first state.
+    pub fn start<K: Kernel>(alloc: Global, kernel: &mut K) -> Result<Controller, StartFault>
+        requires { (K.seen kernel.old).journal ≡ [] }
+        ensures answer { IsStarted result (K.seen kernel.old) (K.seen kernel.new) }
+        ensures kept { IfOk result (λ controller. IsKept controller (K.seen kernel.new)) }
+    {
+        let state = State::start(alloc).map_err(StartFault::Memory)?;
+        let plan = start_plan(alloc).map_err(StartFault::Memory)?;
+        kernel
+            .reserve(most_requests(&plan))
+            .map_err(StartFault::Memory)?;
+        match carry(&plan, kernel) {
+            Carried::Done => Ok(Controller {
+                alloc,
+                state,
+                halted: None,
+            }),
+            Carried::Undone { request } => Err(StartFault::Refused { request }),
+            Carried::Halted { request } => Err(StartFault::Halted { request }),
+        }
+    }
+
+    /// The state of the policy.
+    pub fn state(&self) -> &State
+        ensures { result.now ≡ self.now.state }
+    {
+        &self.state
+    }
+
+    /// The request by which the controller halted.
+    pub fn halted(&self) -> Option<u64>
+        ensures { result ≡ self.now.halted }
+    {
+        self.halted
+    }
+
+    /// Brings the kernel to the state that the command gives. The new state, the plan and the kernel's room are made
+    /// first, so that nothing can want memory from the first request on.
+    pub fn apply<K: Kernel>(&mut self, kernel: &mut K, command: &Command) -> Answer
+        requires { IsKept self.old (K.seen kernel.old) }
+        ensures answer { IsAnswered result command.now self.old self.new (K.seen kernel.old) (K.seen kernel.new) }
+        ensures kept { IsKept self.new (K.seen kernel.new) }
+    {
+        if let Some(request) = self.halted {
+            return Answer::Halted { request };
+        }
+        let new = match self.state.step(command) {
+            Ok(new) => new,
+            Err(StepFault::Refused { code }) => return Answer::Refused { code },
+            Err(StepFault::Memory(_)) => return Answer::NoMemory,
+        };
+        let plan = match plan(self.alloc, &self.state, &new) {
+            Ok(plan) => plan,
+            Err(_) => return Answer::NoMemory,
+        };
+        let most = most_requests(&plan);
+        if kernel.entry_count() + most > JOURNAL_LIMIT {
+            return Answer::Refused {
+                code: Code::NoSpace,
+            };
+        }
+        if kernel.reserve(most).is_err() {
+            return Answer::NoMemory;
+        }
+        match carry(&plan, kernel) {
+            Carried::Done => {
+                self.state = new;
+                Answer::Done
+            }
+            Carried::Undone { request } => Answer::KernelRefused { request },
+            Carried::Halted { request } => {
+                self.halted = Some(request);
+                Answer::Halted { request }
+            }
+        }
+    }
+}

@@ -1,0 +1,6 @@
+//! The controller: it keeps the state of the policy, and brings a kernel's rules and routes to it, command by command.
+#![tactic(auto)]
+
+mod controller;
+
+pub use controller::{Answer, Controller, StartFault};

@@ -1,0 +1,4 @@
+pub mod Offers
+pub mod Texts
+pub mod Turns
+pub mod Ending

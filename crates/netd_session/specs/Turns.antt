@@ -1,0 +1,81 @@
+-- What a session says, line by line.
+use Rattle.std.specs.Prelude.{◌≡◌, ℕ, ◌+◌, List, [], ◌∷◌, ◌++◌, length, Option, None}
+use Rattle.kernel_model.specs.State.{rules_of}
+use Rattle.kernel_model.specs.View.{KernelView, state_of}
+use Rattle.kernel_model.specs.Walk.{trail_of}
+use Rattle.rule_match.specs.Packet.{IsMade}
+use Rattle.rule_match.specs.declared.packet.Packet.{Packet}
+use Rattle.policy_meaning.specs.Policy.{policy}
+use Rattle.net_control.specs.Applied.{IsAnswered}
+use Rattle.net_control.specs.View.{ControllerView}
+use Rattle.net_control.specs.declared.controller.Answer.{Answer}
+use Rattle.net_control.specs.declared.controller.Answer.TheVariants as answer
+use Rattle.script_reader.specs.Grammar.{Spells}
+use Rattle.script_reader.specs.declared.line.Line.{Line}
+use Rattle.script_reader.specs.declared.line.Line.TheVariants as line
+use Rattle.script_reader.specs.declared.line.TraceLine.TheVariants as trace
+use Rattle.script_reader.specs.declared.line.ShowLine.TheVariants as show
+use Rattle.report_text.specs.Texts.{rules_text}
+use Rattle.netd_session.specs.Texts.{numbered, answer_text, went_text}
+use Rattle.netd_session.specs.declared.turn.Said.{Said}
+use Rattle.netd_session.specs.declared.turn.Said.TheVariants as said
+use Rattle.netd_session.specs.declared.turn.Turn.{Turn}
+
+-- the controller and the kernel at a moment between two lines
+pub record Standing : Type 0 where
+  pub controller : ControllerView
+  pub kernel : KernelView
+
+-- what a turn says of a command's answer; of want of memory there is no turn
+abbrev pub Says : Said → Answer → Type 0
+Says said.Done answer.Done = Unit {0}
+Says (said.Refused c) (answer.Refused d) = c ≡ d
+Says (said.KernelRefused r) (answer.KernelRefused q) = r ≡ q
+Says (said.Halted r) (answer.Halted q) = r ≡ q
+Says _ _ = ⊥
+
+-- the turn of a line with this number, which says this, and behind which the kernel is as it stands then
+abbrev pub turn_of : ℕ → Said → Standing → Turn
+turn_of n s e = record { line = n; said = s; journal_end = length e.kernel.journal }
+
+-- a blank line has no turn and changes nothing
+abbrev pub IsPassedOver : (s e : Standing) → List Turn → List ℕ → Type 0
+IsPassedOver s e turns out = (e ≡ s) × (turns ≡ []) × (out ≡ [])
+
+-- a command is answered by the controller
+abbrev pub IsCommanded : _ → ℕ → (s e : Standing) → List Turn → List ℕ → Type 0
+IsCommanded command n s e turns out =
+    (a : Answer) × (what : Said) × IsAnswered a command s.controller e.controller s.kernel e.kernel × Says what a
+    × (turns ≡ turn_of n what e ∷ []) × (out ≡ numbered n (answer_text a))
+
+-- a packet's line says where the policy sends it, and prints the rules that it meets on the way
+abbrev pub IsTraced : Packet → ℕ → (s e : Standing) → List Turn → List ℕ → Type 0
+IsTraced packet n s e turns out =
+    (e ≡ s)
+    × (turns ≡ turn_of n (said.Went packet.mark (policy s.controller.state packet)) e ∷ [])
+    × (out ≡ numbered n (went_text s.controller.state packet.mark (policy s.controller.state packet) (trail_of (state_of s.kernel) packet)))
+
+-- what the line says, and what it changes
+abbrev pub IsAnsweredLine : Line → ℕ → (s e : Standing) → List Turn → List ℕ → Type 0
+IsAnsweredLine line.Blank n s e turns out = IsPassedOver s e turns out
+IsAnsweredLine (line.Control command) n s e turns out = IsCommanded command n s e turns out
+IsAnsweredLine (line.Trace (trace.Made uid mark dest)) n s e turns out =
+    (packet : Packet) × IsMade uid mark dest None packet × IsTraced packet n s e turns out
+IsAnsweredLine (line.Show (show.Rules family)) n s e turns out =
+    (e ≡ s) × (turns ≡ turn_of n said.Shown e ∷ [])
+    × (out ≡ numbered n (rules_text s.controller.state (rules_of (state_of s.kernel) family)))
+
+-- a line of the grammar, with its number, in these turns and this text
+pub record Goes (text : List ℕ) (n : ℕ) (s e : Standing) (turns : List Turn) (out : List ℕ) : Type 0 where
+  pub line : Line
+  pub spelled : Spells text line
+  pub answered : IsAnsweredLine line n s e turns out
+
+-- The lines so far, each answered in turn by a controller that runs.
+pub data Ran (begun : Standing) : List (List ℕ) → Standing → List Turn → List ℕ → Type 0 where
+  no_line : Ran begun [] begun [] []
+  one_more : (texts : List (List ℕ)) (m : Standing) (turns : List Turn) (out : List ℕ)
+      → Ran begun texts m turns out → m.controller.halted ≡ None
+      → (text : List ℕ) (e : Standing) (more : List Turn) (more_out : List ℕ)
+      → Goes text (length texts + 1) m e more more_out
+      → Ran begun (texts ++ text ∷ []) e (turns ++ more) (out ++ more_out)
