@@ -1,0 +1,6 @@
+//! A table of routes, as a list.
+#![tactic(auto)]
+
+mod table;
+
+pub use table::Table;
