@@ -1,0 +1,4 @@
+pub mod Replays
+pub mod Sames
+pub mod Requests
+pub mod Undoing

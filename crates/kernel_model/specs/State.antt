@@ -1,8 +1,7 @@
 -- What a kernel is, after the ip-rule manual: a list of rules for each family, and tables of routes.
 use Rattle.std.specs.Prelude.{ℕ, Bool, true, false, not, ◌==◌, if◌then◌else◌, List, [], ◌∷◌, ◌++◌, None, refl}
-use Rattle.std.specs.List.{list_any}
 use Rattle.std.proofs.Common.{lit≤}
-use Rattle.prefixes.specs.Route.{same_route, same_key}
+use Rattle.fib_table.specs.Table.{has_key, has_route, without_route}
 use Rattle.prefixes.specs.declared.addr.Addr.TheVariants as addr
 use Rattle.prefixes.specs.declared.addr.Family.{Family}
 use Rattle.prefixes.specs.declared.addr.Family.TheVariants as family
@@ -41,28 +40,17 @@ routes_of n (t ∷ ts) = if t.number == n then t.routes else routes_of n ts
 abbrev pub has_rule : Rule → List Rule → Bool
 has_rule rule rules = has rule_kind rules rule
 
-abbrev pub has_route : Route → List Route → Bool
-has_route route routes = list_any (same_route route) routes
-
-abbrev pub has_key : Route → List Route → Bool
-has_key route routes = list_any (same_key route) routes
-
 -- a route goes last in its table, and a table that isn't there goes last
 abbrev pub put_route : ℕ → Route → List NumberedTable → List NumberedTable
 put_route n route [] = record { number = n; routes = route ∷ [] } ∷ []
 put_route n route (t ∷ ts) =
     if t.number == n then record { number = t.number; routes = t.routes ++ route ∷ [] } ∷ ts else t ∷ put_route n route ts
 
--- the routes without this one
-abbrev pub without_route : Route → List Route → List Route
-without_route route [] = []
-without_route route (x ∷ xs) = if same_route route x then xs else x ∷ without_route route xs
-
 -- a route is taken out of its table, and an emptied table stays
 abbrev pub cut_route : ℕ → Route → List NumberedTable → List NumberedTable
 cut_route n route [] = []
 cut_route n route (t ∷ ts) =
-    if t.number == n then record { number = t.number; routes = without_route route t.routes } ∷ ts else t ∷ cut_route n route ts
+    if t.number == n then record { number = t.number; routes = without_route t.routes route } ∷ ts else t ∷ cut_route n route ts
 
 -- the kernel after an addition
 abbrev pub add : KernelState → Request → KernelState
@@ -77,12 +65,12 @@ delete k (req.Route n route) = record k { tables = cut_route n route k.tables }
 -- the rule isn't in its family's list, or the route's key isn't in its table
 abbrev pub is_absent : KernelState → Request → Bool
 is_absent k (req.Rule f rule) = not (has_rule rule (rules_of k f))
-is_absent k (req.Route n route) = not (has_key route (routes_of n k.tables))
+is_absent k (req.Route n route) = not (has_key (routes_of n k.tables) route)
 
 -- the rule is in its family's list, or the route is in its table
 abbrev pub is_present : KernelState → Request → Bool
 is_present k (req.Rule f rule) = has_rule rule (rules_of k f)
-is_present k (req.Route n route) = has_route route (routes_of n k.tables)
+is_present k (req.Route n route) = has_route (routes_of n k.tables) route
 
 abbrev pub is_route : Request → Bool
 is_route (req.Rule f rule) = false

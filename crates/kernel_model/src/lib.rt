@@ -6,8 +6,10 @@ mod kernel;
 mod plan;
 mod request;
 mod step;
+mod walk;
 
 pub use kernel::{Armed, Kernel, KernelFault, ask_add, ask_delete};
 pub use plan::Plan;
 pub use request::{Entry, EntryKind, Request};
 pub use step::Step;
+pub use walk::verdict_by;
