@@ -1,4 +1,12 @@
-//! A session: reads lines, answers each before it reads the next, and offers each answer to the sink.
+//! A session: reads lines from a source, answers each before it reads the next, and offers each answer to a sink.
 #![tactic(auto)]
 
+mod answers;
 mod output;
+mod session;
+mod status;
+mod turn;
+
+pub use session::session;
+pub use status::Status;
+pub use turn::{Ended, Said, Turn};
