@@ -1,4 +1,7 @@
 pub mod Offers
+pub mod StatusNumber
+pub mod EndedView
 pub mod Texts
 pub mod Turns
+pub mod Talks
 pub mod Ending
