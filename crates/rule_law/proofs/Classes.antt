@@ -1,13 +1,14 @@
 -- What additions and deletions do to the rules of one priority and selectors, and for what a list stands in the end.
-use Rattle.std.proofs.Common.{◌≡◌, ℕ, ◌<◌, Bool, true, false, cond, List, [], ◌∷◌, ◌++◌, refl, sym, ◌∙◌, ap, subst, inl, inr, arith, filter, not, map, reverse, append_assoc, leb}
+use Rattle.std.proofs.Common.{◌≡◌, ℕ, ◌+◌, ◌≤◌, ◌<◌, Bool, true, false, cond, List, [], ◌∷◌, ◌++◌, refl, sym, ◌∙◌, ap, subst, inl, inr, arith, filter, not, map, reverse, append_assoc, leb}
 use Rattle.std.proofs.lemmas.Bool.{cases_Bool, leb-false}
 use Rattle.std.proofs.lemmas.List.{append-nil}
 use Rattle.std.proofs.lemmas.List.Elements.{filter-append}
 use Rattle.rule_law.specs.Rules.{Kind, placed, without, has, NoneBelow, Rises, HasEachOnce, class, Stands}
 use Rattle.rule_law.specs.Plans.{common, beyond, KeepsOrder, PutsNewBehind, Add, Delete, after, plan}
-use Rattle.rule_law.proofs.Membership.{filter-all, filter-both, filter-same, filter-swap, has_beyond, has_filter, has_placed, has_reverse}
-use Rattle.rule_law.proofs.Orders.{HasEachOnce-filter, HasEachOnce-placed, HasEachOnce-without, Rises-placed, Rises-without, same_sym}
+use Rattle.rule_law.proofs.Membership.{filter-all, filter-same, filter-swap, has_beyond, has_filter, has_reverse}
+use Rattle.rule_law.proofs.Orders.{HasEachOnce-filter, Rises-placed, Rises-without}
 use Rattle.rule_law.proofs.Moments.{after-append}
+use Rattle.rule_law.proofs.Counts.{count, count-absent, count-added, count-class, count-filter, count-reverse, deleted}
 
 module _ {R : Type 0} (k : Kind R) where
   -- membership by classes
@@ -76,58 +77,29 @@ module _ {R : Type 0} (k : Kind R) where
       ∙ (append_assoc (class k rule xs) (class k rule (r ∷ [])) (class k rule rs)
       ∙ ap (λ zs. class k rule xs ++ zs) (class-one_more rule r rs)))
 
-  pub HasEachOnce-added : (rs xs : List R) → HasEachOnce k xs → HasEachOnce k rs → ((x : R) → has k rs x ≡ true → has k xs x ≡ false) → HasEachOnce k (after k (map Add rs) xs)
-  HasEachOnce-added [] xs o n h = o
-  HasEachOnce-added (r ∷ rs) xs o n h =
-      let new : has k xs r ≡ false = h r (rw (k.same_self r) refl) in
-      HasEachOnce-added rs (placed k r xs) (HasEachOnce-placed k r xs new o) n.1
-      (λ x t. let e : has k xs x ≡ false = h x (grind arith) in grind (arith, has_placed k r x xs, k.same_is x r, n.0))
-
-  -- deletions are a filter
-
-  without-absent : (d : R) (xs : List R) → has k xs d ≡ false → without k d xs ≡ xs
-  without-absent d [] h = refl
-  without-absent d (x ∷ xs) h = grind (arith, without-absent d xs)
-
-  pub without-filter : (d : R) (xs : List R) → HasEachOnce k xs → without k d xs ≡ filter (λ x. not (k.same x d)) xs
-  without-filter d [] o = refl
-  without-filter d (x ∷ xs) o =
-      elim (cases_Bool (k.same d x)) [
-        | inl t ↦
-            let back : k.same x d ≡ true = same_sym k x d ∙ t in
-            let none : has k xs d ≡ false = subst (λ y. has k xs y ≡ false) (sym (k.same_is d x t)) o.0 in
-            rw (t, back) (sym (filter-all k (λ y. not (k.same y d)) xs (λ y h. grind (arith, k.same_is y d))))
-        | inr t ↦
-            let back : k.same x d ≡ false = same_sym k x d ∙ t in
-            rw (t, back) (ap (λ zs. x ∷ zs) (without-filter d xs o.1))
-      ]
-
-  pub deleted : (ds xs : List R) → HasEachOnce k xs → after k (map Delete ds) xs ≡ filter (λ x. not (has k ds x)) xs
-  deleted [] xs o = sym (filter-all k (λ x. true) xs (λ x h. refl))
-  deleted (d ∷ ds) xs o =
-      deleted ds (without k d xs) (HasEachOnce-without k d xs o)
-      ∙ (ap (λ zs. filter (λ x. not (has k ds x)) zs) (without-filter d xs o)
-      ∙ (filter-both k (λ x. not (has k ds x)) (λ x. not (k.same x d)) xs
-      ∙ filter-same k (λ x. cond (not (k.same x d)) (not (has k ds x)) false) (λ x. not (has k (d ∷ ds) x)) xs (λ x h. grind arith)))
-
   -- in the end the list stands for the new table
 
-  pub stands_in_the_end : (old new rules : List R) → HasEachOnce k old → HasEachOnce k new → KeepsOrder k old new → PutsNewBehind k old new → Stands k rules old
+  pub stands_in_the_end : (old new rules : List R) → KeepsOrder k old new → PutsNewBehind k old new → Stands k rules old
       → Stands k (after k (plan k old new) rules) new
-  stands_in_the_end old new rules old_once new_once same_order new_behind g =
+  stands_in_the_end old new rules same_order new_behind g =
       let adds : List R = beyond k old new in
       let dels : List R = reverse (beyond k new old) in
       let mid : List R = after k (map Add adds) rules in
       let keep : R → Bool = λ x. not (has k dels x) in
-      let same : (x : R) → has k rules x ≡ has k old x = has-classes rules old g.classes in
-      let once : HasEachOnce k mid = HasEachOnce-added adds rules (HasEachOnce-like rules old g.classes old_once) (HasEachOnce-filter k (λ x. not (has k old x)) new new_once)
-      (λ x t. same x ∙ grind (arith, has_beyond k old new x)) in
       let in_order : Rises k (after k (map Delete dels) mid) = Rises-deleted dels mid (Rises-added adds rules g.rises) in
       let gone : (x : R) → has k dels x ≡ cond (not (has k new x)) (has k old x) false = λ x. has_reverse k x (beyond k new old) ∙ has_beyond k new old x in
       let olds : filter keep old ≡ common k new old = filter-same k keep (has k new) old (λ x t. grind (arith, gone x)) in
       let news : filter keep adds ≡ adds = filter-all k keep adds (λ x t. grind (arith, gone x, has_beyond k old new x)) in
+      let enough : (y : R) → has k dels y ≡ true → count k y mid ≤ count k y dels = λ y t.
+      let in_new : has k new y ≡ false = grind (arith, gone y) in
+      let added : count k y adds ≡ 0 = count-absent k y adds (grind (arith, has_beyond k old new y)) in
+      let there : count k y rules ≡ count k y old = sym (count-class k y rules) ∙ (ap (λ zs. count k y zs) (g.classes y) ∙ count-class k y old) in
+      let deleted_often : count k y dels ≡ count k y old =
+      count-reverse k y (beyond k new old) ∙ (count-filter k y (λ x. not (has k new x)) old ∙ rw in_new refl) in
+      let both : count k y mid ≡ count k y adds + count k y rules = count-added k y adds rules in
+      omega (arith, added, there, deleted_often, both) in
       let classes : (rule : R) → class k rule (after k (map Delete dels) mid) ≡ class k rule new = λ rule.
-      ap (λ zs. class k rule zs) (deleted dels mid once)
+      ap (λ zs. class k rule zs) (deleted k dels mid enough)
       ∙ (filter-swap k (k.alike rule) keep mid
       ∙ (ap (λ zs. filter keep zs) (class-added rule adds rules g.rises ∙ ap (λ zs. zs ++ class k rule adds) (g.classes rule))
       ∙ (filter-append keep (class k rule old) (class k rule adds)

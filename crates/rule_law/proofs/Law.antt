@@ -12,7 +12,7 @@ use Rattle.rule_law.proofs.Moments.{Along, Along-end, Along-map, Back-left, Back
 use Rattle.rule_law.proofs.Adding.{Leads, adding}
 use Rattle.rule_law.proofs.Deleting.{LastOfAll-part, deleting, deleting-none, deleting-others}
 use Rattle.rule_law.proofs.Classes.{has-classes}
-use Rattle.rule_law.proofs.Undoing.{restored, undo, undo-is, undoing}
+use Rattle.rule_law.proofs.Undoing.{undo, undo-is, undoing}
 
 module _ {R : Type 0} (k : Kind R) (old new rules : List R) (g : Stands k rules old) where
   -- the first of a plan's additions are absent from the list
@@ -24,11 +24,6 @@ module _ {R : Type 0} (k : Kind R) (old new rules : List R) (g : Stands k rules 
   pub additions-once : HasEachOnce k new → (rs rest : List R) → rs ++ rest ≡ beyond k old new → HasEachOnce k rs
   additions-once new_once rs rest c =
       HasEachOnce-front k rs rest (subst (λ zs. HasEachOnce k zs) (sym c) (HasEachOnce-filter k (λ x. not (has k old x)) new new_once))
-
-  -- additions that are undone leave the very list
-  pub as_before : HasEachOnce k new → (rs rest : List R) → rs ++ rest ≡ beyond k old new → after k (undone rs) rules ≡ rules
-  as_before new_once rs rest c =
-      subst (λ es. after k es rules ≡ rules) (undo-is k rs) (restored k rs rules (additions-once new_once rs rest c) (additions-absent rs rest c))
 
   module _ (s : R → Bool) (new_rises : Rises k new) where
     leads-new-at : (r : R) → find s (beyond k old new) ≡ Some r → Beats k s r rules → (o : Option R) → find s new ≡ o → o ≡ Some r

@@ -5,6 +5,7 @@ pub mod Moments
 pub mod Numbers
 pub mod Adding
 pub mod Deleting
+pub mod Counts
 pub mod Classes
 pub mod Undoing
 pub mod Walks

@@ -1,7 +1,7 @@
 -- Which rules stand in a list, and what a filter leaves of one.
 use Rattle.std.proofs.Common.{◌≡◌, Bool, true, false, cond, not, List, [], ◌∷◌, ◌++◌, refl, ap, ◌∙◌, arith, filter, reverse}
 use Rattle.std.proofs.lemmas.List.{reverse-append}
-use Rattle.rule_law.specs.Rules.{Kind, placed, without, has}
+use Rattle.rule_law.specs.Rules.{Kind, placed, has}
 use Rattle.rule_law.specs.Plans.{common, beyond}
 
 module _ {R : Type 0} (k : Kind R) where
@@ -16,10 +16,6 @@ module _ {R : Type 0} (k : Kind R) where
   pub has_placed : (r x : R) (xs : List R) → has k (placed k r xs) x ≡ cond (k.same x r) true (has k xs x)
   has_placed r x [] = grind arith
   has_placed r x (y ∷ ys) = grind (arith, has_placed r x ys)
-
-  pub has_without : (r x : R) (xs : List R) → has k (without k r xs) x ≡ true → has k xs x ≡ true
-  has_without r x [] h = h
-  has_without r x (y ∷ ys) h = grind (arith, has_without r x ys)
 
   pub reverse-more : (x : R) (xs : List R) → reverse (x ∷ xs) ≡ reverse xs ++ x ∷ []
   reverse-more x xs = reverse-append (x ∷ []) xs
@@ -40,10 +36,6 @@ module _ {R : Type 0} (k : Kind R) where
   filter-all p (x ∷ xs) h =
       let here : p x ≡ true = h x (rw (k.same_self x) refl) in
       rw here (ap (λ ys. x ∷ ys) (filter-all p xs (λ y t. h y (grind arith))))
-
-  pub filter-both : (p q : R → Bool) (xs : List R) → filter p (filter q xs) ≡ filter (λ x. cond (q x) (p x) false) xs
-  filter-both p q [] = refl
-  filter-both p q (x ∷ xs) = grind (arith, filter-both p q xs)
 
   pub filter-swap : (p q : R → Bool) (xs : List R) → filter p (filter q xs) ≡ filter q (filter p xs)
   filter-swap p q [] = refl

@@ -2,7 +2,7 @@
 use Rattle.std.proofs.Common.{◌≡◌, ℕ, ◌≤◌, Bool, true, false, cond, List, [], ◌∷◌, ◌++◌, refl, ◌∙◌, inl, inr, arith, filter, leb}
 use Rattle.std.proofs.lemmas.Bool.{cases_Bool, leb-true, leb-false, false≢true}
 use Rattle.rule_law.specs.Rules.{Kind, placed, without, has, NoneBelow, Rises, HasEachOnce}
-use Rattle.rule_law.proofs.Membership.{has_append, has_filter, has_placed, has_without}
+use Rattle.rule_law.proofs.Membership.{has_append, has_filter}
 
 module _ {R : Type 0} (k : Kind R) where
   pub same_sym : (x y : R) → k.same x y ≡ k.same y x
@@ -53,22 +53,6 @@ module _ {R : Type 0} (k : Kind R) where
   HasEachOnce-filter p [] h = tt
   HasEachOnce-filter p (x ∷ xs) h =
       elim (p x) as (λ b. HasEachOnce k (cond b (x ∷ filter p xs) (filter p xs))) [ true ↦ (grind (arith, has_filter k p x xs, h.0), HasEachOnce-filter p xs h.1) | false ↦ HasEachOnce-filter p xs h.1 ]
-
-  pub HasEachOnce-placed : (r : R) (xs : List R) → has k xs r ≡ false → HasEachOnce k xs → HasEachOnce k (placed k r xs)
-  HasEachOnce-placed r [] n h = (refl, tt)
-  HasEachOnce-placed r (x ∷ xs) n h =
-      let apart : k.same r x ≡ false = grind arith in
-      let rest : has k xs r ≡ false = grind arith in
-      elim (leb (k.priority x) (k.priority r)) as (λ b. HasEachOnce k (cond b (x ∷ placed k r xs) (r ∷ x ∷ xs)))
-      [ true ↦ (grind (arith, has_placed k r x xs, same_sym x r, apart, h.0), HasEachOnce-placed r xs rest h.1) | false ↦ (n, h) ]
-
-  pub without_false : (r x : R) (xs : List R) → has k xs x ≡ false → has k (without k r xs) x ≡ false
-  without_false r x xs h = grind (arith, has_without k r x xs)
-
-  pub HasEachOnce-without : (r : R) (xs : List R) → HasEachOnce k xs → HasEachOnce k (without k r xs)
-  HasEachOnce-without r [] h = tt
-  HasEachOnce-without r (x ∷ xs) h =
-      elim (k.same r x) as (λ b. HasEachOnce k (cond b xs (x ∷ without k r xs))) [ true ↦ h.1 | false ↦ (without_false r x xs h.0, HasEachOnce-without r xs h.1) ]
 
   NoneBelow-front : (n : ℕ) (xs ys : List R) → NoneBelow k n (xs ++ ys) → NoneBelow k n xs
   NoneBelow-front n [] ys h = tt

@@ -3,14 +3,14 @@ use Rattle.std.proofs.Common.{◌≡◌, ℕ, List, ◌++◌, sym, ◌∙◌, ap
 use Rattle.std.specs.List.{find}
 use Rattle.std.proofs.lemmas.List.{take-append-drop}
 use Rattle.rule_law.specs.Rules.{Kind, Rises, HasEachOnce, AreAbsent, Stands, GiversAreAlike, walk}
-use Rattle.rule_law.specs.Plans.{KeepsOrder, PutsNewBehind, AreOldAndNew, beyond, Request, after, concerning, plan, undone, walk_at, GoesOver, GoesOverAndBack}
+use Rattle.rule_law.specs.Plans.{KeepsOrder, PutsNewBehind, beyond, Request, after, concerning, plan, undone, walk_at, GoesOver, GoesOverAndBack}
 use Rattle.rule_law.proofs.Moments.{Back-concerning, Back-front, Back-map, Over, Over-concerning, Over-front, Over-map, OverAndBack, after-concerning}
 use Rattle.rule_law.proofs.Numbers.{back-numbers, over-numbers}
 use Rattle.rule_law.proofs.Adding.{Leads}
 use Rattle.rule_law.proofs.Classes.{stands_in_the_end}
-use Rattle.rule_law.proofs.Undoing.{restored, undo-is}
+use Rattle.rule_law.proofs.Undoing.{restored}
 use Rattle.rule_law.proofs.Walks.{leads-stands, same_walk, speaks}
-use Rattle.rule_law.proofs.Law.{as_before, returns, switches}
+use Rattle.rule_law.proofs.Law.{additions-absent, returns, switches}
 
 module _ {R V : Type 0} (k : Kind R) (gives : R → Option V) (none : V) where
   over-record : (es : List (Request R)) (xs : List R) (a b : V)
@@ -29,17 +29,18 @@ module _ {R V : Type 0} (k : Kind R) (gives : R → Option V) (none : V) where
   stands_walks rules table n u h = same_walk gives none rules table (leads-stands k gives rules table h n u)
 
   pub goes_over : (old new rules : List R) (requests rest : List (Request R))
-      → AreOldAndNew k old new → GiversAreAlike k gives old → GiversAreAlike k gives new → Stands k rules old
+      → Rises k old → Rises k new → HasEachOnce k old → KeepsOrder k old new → PutsNewBehind k old new
+      → GiversAreAlike k gives old → GiversAreAlike k gives new → Stands k rules old
       → concerning requests ++ rest ≡ plan k old new
       → GoesOver (length requests) (walk_at k gives none rules requests) (walk gives none old) (walk gives none new)
-  goes_over old new rules requests rest h u v g c =
+  goes_over old new rules requests rest old_rises new_rises old_once same_order new_behind u v g c =
       let s : _ = speaks gives in
       let P : List R → Type 0 = Leads s (find s old) in
       let Q : List R → Type 0 = Leads s (find s new) in
-      let d : find s rules ≡ find s old = leads-stands k gives rules old g h.old_rises u in
-      let end : Stands k (after k (plan k old new) rules) new = stands_in_the_end k old new rules h.old_once h.new_once h.same_order h.new_behind g in
-      let e : find s (after k (plan k old new) rules) ≡ find s new = leads-stands k gives (after k (plan k old new) rules) new end h.new_rises v in
-      let o : Over k P Q (plan k old new) rules = switches k old new rules g s h.new_rises h.old_once d e in
+      let d : find s rules ≡ find s old = leads-stands k gives rules old g old_rises u in
+      let end : Stands k (after k (plan k old new) rules) new = stands_in_the_end k old new rules same_order new_behind g in
+      let e : find s (after k (plan k old new) rules) ≡ find s new = leads-stands k gives (after k (plan k old new) rules) new end new_rises v in
+      let o : Over k P Q (plan k old new) rules = switches k old new rules g s new_rises old_once d e in
       over-record requests rules (walk gives none old) (walk gives none new)
       (Over-map k P Q (λ zs. walk gives none zs ≡ walk gives none old) (λ zs. walk gives none zs ≡ walk gives none new)
       (λ zs q. same_walk gives none zs old q) (λ zs q. same_walk gives none zs new q) requests rules
@@ -63,19 +64,18 @@ module _ {R V : Type 0} (k : Kind R) (gives : R → Option V) (none : V) where
 
 module _ {R : Type 0} (k : Kind R) where
   pub ends_in_new : (old new rules : List R) (requests : List (Request R))
-      → HasEachOnce k old → HasEachOnce k new → KeepsOrder k old new → PutsNewBehind k old new → Stands k rules old
+      → KeepsOrder k old new → PutsNewBehind k old new → Stands k rules old
       → concerning requests ≡ plan k old new → Stands k (after k requests rules) new
-  ends_in_new old new rules requests a b o n g c =
-      subst (λ zs. Stands k zs new) (ap (λ es. after k es rules) (sym c) ∙ after-concerning k requests rules) (stands_in_the_end k old new rules a b o n g)
+  ends_in_new old new rules requests o n g c =
+      subst (λ zs. Stands k zs new) (ap (λ es. after k es rules) (sym c) ∙ after-concerning k requests rules) (stands_in_the_end k old new rules o n g)
 
   pub any_ends_as_before : (added rules : List R) (requests : List (Request R))
-      → HasEachOnce k added → AreAbsent k added rules → concerning requests ≡ undone added → after k requests rules ≡ rules
-  any_ends_as_before added rules requests n a c =
-      sym (after-concerning k requests rules) ∙ (ap (λ es. after k es rules) c
-      ∙ subst (λ es. after k es rules ≡ rules) (undo-is k added) (restored k added rules n a))
+      → AreAbsent k added rules → concerning requests ≡ undone added → after k requests rules ≡ rules
+  any_ends_as_before added rules requests a c =
+      sym (after-concerning k requests rules) ∙ (ap (λ es. after k es rules) c ∙ restored k added rules a)
 
   pub ends_as_before : (old new rules : List R) (j : ℕ) (requests : List (Request R))
-      → HasEachOnce k new → Stands k rules old → concerning requests ≡ undone (take j (beyond k old new)) → after k requests rules ≡ rules
-  ends_as_before old new rules j requests n g c =
-      sym (after-concerning k requests rules) ∙ (ap (λ es. after k es rules) c
-      ∙ as_before k old new rules g n (take j (beyond k old new)) (drop j (beyond k old new)) (take-append-drop j (beyond k old new)))
+      → Stands k rules old → concerning requests ≡ undone (take j (beyond k old new)) → after k requests rules ≡ rules
+  ends_as_before old new rules j requests g c =
+      any_ends_as_before (take j (beyond k old new)) rules requests
+      (additions-absent k old new rules g (take j (beyond k old new)) (drop j (beyond k old new)) (take-append-drop j (beyond k old new))) c

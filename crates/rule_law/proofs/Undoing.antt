@@ -1,15 +1,17 @@
 -- While rules are added and deleted again, last first, the leading rule changes at most once and back.
-use Rattle.std.proofs.Common.{◌≡◌, ◌<◌, ◌≤◌, Bool, true, false, cond, List, [], ◌∷◌, ◌++◌, refl, sym, ◌∙◌, ap, subst, inl, inr, arith, map, reverse, Some, append_assoc, leb}
-use Rattle.std.specs.Prelude.{◌⊎◌}
+use Rattle.std.proofs.Common.{◌≡◌, ◌<◌, ◌≤◌, Bool, true, false, List, [], ◌∷◌, ◌++◌, not, refl, sym, ◌∙◌, ap, subst, inl, inr, arith, map, reverse, Some, append_assoc}
+use Rattle.std.specs.Prelude.{◌⊎◌, ◌+◌}
+use Rattle.std.proofs.lemmas.Bool.{cases_Bool, false≢true}
 use Rattle.std.proofs.lemmas.List.{map-append}
 use Rattle.std.specs.List.{find}
 use Rattle.rule_law.specs.Rules.{Kind, AreAbsent, placed, without, has, NoneBelow, Rises, HasEachOnce}
 use Rattle.rule_law.specs.Plans.{Request, Add, Delete, after, undone}
-use Rattle.rule_law.proofs.Membership.{has_placed, reverse-more}
+use Rattle.rule_law.proofs.Membership.{filter-all, has_placed, has_reverse, reverse-more}
 use Rattle.rule_law.proofs.Orders.{NoneBelow-has, Rises-placed}
 use Rattle.rule_law.proofs.Leading.{Beats, find-has, find-placed}
 use Rattle.rule_law.proofs.Moments.{Along, Along-append, Along-map, Back-from_over, Back-map, Over, Over-later, Over-then_back, OverAndBack, after-append}
 use Rattle.rule_law.proofs.Adding.{Beats-before, Leads, later-first}
+use Rattle.rule_law.proofs.Counts.{count, count-absent, count-added, count-reverse, deleted, unseen-added}
 
 -- `undone` by recursion: each rule is added, then what follows is done and undone, and the rule is deleted
 abbrev pub undo : {R : Type 0} → List R → List (Request R)
@@ -25,23 +27,32 @@ module _ {R : Type 0} (k : Kind R) where
       ∙ (append_assoc (map Add rs) (map Delete (reverse rs)) (Delete r ∷ [])
       ∙ ap (λ es. map Add rs ++ es) (sym (map-append Delete (reverse rs) (r ∷ [])) ∙ ap (λ ds. map Delete ds) (sym (reverse-more k r rs)))))
 
-  without-placed : (r : R) (xs : List R) → has k xs r ≡ false → without k r (placed k r xs) ≡ xs
-  without-placed r [] n = rw (k.same_self r) refl
-  without-placed r (x ∷ xs) n =
-      let apart : k.same r x ≡ false = grind arith in
-      let rest : has k xs r ≡ false = grind arith in
-      elim (leb (k.priority x) (k.priority r)) as (λ b. without k r (cond b (x ∷ placed k r xs) (r ∷ x ∷ xs)) ≡ x ∷ xs)
-      [ true ↦ rw apart (ap (λ ys. x ∷ ys) (without-placed r xs rest)) | false ↦ rw (k.same_self r) refl ]
-
   pub AreAbsent-more : (r : R) (rs xs : List R) → HasEachOnce k (r ∷ rs) → AreAbsent k (r ∷ rs) xs → AreAbsent k rs (placed k r xs)
   AreAbsent-more r rs xs n h = λ x t. let e : has k xs x ≡ false = h x (grind arith) in grind (arith, has_placed k r x xs, k.same_is x r, n.0)
 
-  pub restored : (rs xs : List R) → HasEachOnce k rs → AreAbsent k rs xs → after k (undo rs) xs ≡ xs
-  restored [] xs n h = refl
-  restored (r ∷ rs) xs n h =
-      after-append k (undo rs) (Delete r ∷ []) (placed k r xs)
-      ∙ (ap (λ ys. without k r ys) (restored rs (placed k r xs) n.1 (AreAbsent-more r rs xs n h))
-      ∙ without-placed r xs (h r (rw (k.same_self r) refl)))
+  -- rules that weren't in the list, added and deleted again, leave the very list
+  pub restored : (rs xs : List R) → AreAbsent k rs xs → after k (undone rs) xs ≡ xs
+  restored rs xs h =
+      let mid : List R = after k (map Add rs) xs in
+      let keep : R → Bool = λ x. not (has k (reverse rs) x) in
+      let enough : (y : R) → has k (reverse rs) y ≡ true → count k y mid ≤ count k y (reverse rs) = λ y t.
+      let none : count k y xs ≡ 0 = count-absent k y xs (h y (sym (has_reverse k y rs) ∙ t)) in
+      let both : count k y mid ≡ count k y rs + count k y xs = count-added k y rs xs in
+      omega (arith, none, both, count-reverse k y rs) in
+      after-append k (map Add rs) (map Delete (reverse rs)) xs
+      ∙ (deleted k (reverse rs) mid enough
+      ∙ (unseen-added k keep rs xs (λ y t. rw (has_reverse k y rs ∙ t) refl)
+      ∙ filter-all k keep xs (λ x t. kept x t (cases_Bool (has k rs x)))))
+    where
+      kept : (x : R) → has k xs x ≡ true → (has k rs x ≡ true) ⊎ (has k rs x ≡ false) → not (has k (reverse rs) x) ≡ true
+      kept x t (inl r) = absurd (false≢true (sym (h x r) ∙ t))
+      kept x t (inr r) = rw (has_reverse k x rs ∙ r) refl
+
+  undo-restored : (rs xs : List R) → AreAbsent k rs xs → after k (undo rs) xs ≡ xs
+  undo-restored rs xs h = ap (λ es. after k es xs) (undo-is rs) ∙ restored rs xs h
+
+  without-placed : (r : R) (xs : List R) → has k xs r ≡ false → without k r (placed k r xs) ≡ xs
+  without-placed r xs n = restored (r ∷ []) xs (λ x t. grind (arith, k.same_is x r))
 
 module _ {R : Type 0} (k : Kind R) (s : R → Bool) where
   not-beaten : (r x : R) (rs xs : List R) → NoneBelow k (k.priority r) rs → s r ≡ true → find s rs ≡ Some x → Beats k s x (placed k r xs) → ⊥
@@ -59,7 +70,7 @@ module _ {R : Type 0} (k : Kind R) (s : R → Bool) where
       let ys : List R = placed k r xs in
       let P : List R → Type 0 = Leads s (find s xs) in
       let last : List (Request R) = Delete r ∷ [] in
-      let back : after k (undo rs) ys ≡ ys = restored k rs ys u.1 (AreAbsent-more k r rs xs u h) in
+      let back : after k (undo rs) ys ≡ ys = undo-restored k rs ys (AreAbsent-more k r rs xs u h) in
       let same : find s (without k r ys) ≡ find s xs = ap (λ zs. find s zs) (without-placed k r xs (h r (rw (k.same_self r) refl))) in
       let rest : _ = undoing rs ys (Rises-placed k r xs o) n.1 u.1 (AreAbsent-more k r rs xs u h) in
       elim (find-placed k s r xs o) [

@@ -51,7 +51,8 @@ ghost use Rattle.rule_law.specs.Parts.{
 pub fn goes_over<R, V>()
     ensures { (k : Kind R) (gives : R → Option V) (none : V)
         (old new rules : List R) (requests rest : List (Request R))
-        → AreOldAndNew k old new → GiversAreAlike k gives old → GiversAreAlike k gives new
+        → Rises k old → Rises k new → HasEachOnce k old → KeepsOrder k old new → PutsNewBehind k old new
+        → GiversAreAlike k gives old → GiversAreAlike k gives new
         → Stands k rules old
         → concerning requests ++ rest ≡ plan k old new
         → GoesOver (length requests) (walk_at k gives none rules requests)
@@ -81,8 +82,7 @@ pub fn each_moment<V>()
 /// The end of a whole plan: the list stands for the new table.
 pub fn ends_in_new<R>()
     ensures { (k : Kind R) (old new rules : List R) (requests : List (Request R))
-        → HasEachOnce k old → HasEachOnce k new → KeepsOrder k old new → PutsNewBehind k old new
-        → Stands k rules old
+        → KeepsOrder k old new → PutsNewBehind k old new → Stands k rules old
         → concerning requests ≡ plan k old new
         → Stands k (after k requests rules) new }
 {}
@@ -90,13 +90,13 @@ pub fn ends_in_new<R>()
 /// The end of an undoing: the very list is back, in its order.
 pub fn ends_as_before<R>()
     ensures of_a_plan { (k : Kind R) (old new rules : List R) (j : ℕ) (requests : List (Request R))
-        → HasEachOnce k new → Stands k rules old
+        → Stands k rules old
         → concerning requests ≡ undone (take j (beyond k old new))
         → after k requests rules ≡ rules }
 
     // whatever the additions are and whatever the list
     ensures of_any { (k : Kind R) (added rules : List R) (requests : List (Request R))
-        → HasEachOnce k added → AreAbsent k added rules
+        → AreAbsent k added rules
         → concerning requests ≡ undone added
         → after k requests rules ≡ rules }
 {}
@@ -127,7 +127,7 @@ pub fn placed_is_behind<R>()
 /// Along a plan, and along an undone one, as far as it comes, no rule is added that is there, and none deleted that isn't.
 pub fn asks_in_turn<R>()
     ensures done { (k : Kind R) (old new rules : List R) (requests rest : List (Request R))
-        → HasEachOnce k old → HasEachOnce k new → Stands k rules old
+        → HasEachOnce k new → Stands k rules old
         → concerning requests ++ rest ≡ plan k old new
         → AskInTurn k requests rules }
     ensures undone { (k : Kind R) (old new rules : List R) (j : ℕ) (requests rest : List (Request R))
