@@ -5,3 +5,4 @@ pub mod Texts
 pub mod Turns
 pub mod Talks
 pub mod Ending
+pub mod Coming

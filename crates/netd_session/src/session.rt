@@ -54,6 +54,9 @@ fn answer_lines<S: Source, W: Sink, K: Kernel>(
         if let Some(status) = talk.take_line(number, input.line(), sink, kernel) {
             return status;
         }
+        if input.is_at_end() {
+            return Status::Finished;
+        }
     }
 }
 

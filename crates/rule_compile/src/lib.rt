@@ -4,7 +4,9 @@
 
 mod difference;
 mod requests;
+mod start;
 mod table;
 
 pub use requests::plan;
+pub use start::start_plan;
 pub use table::{rule_count, rules};
