@@ -1,11 +1,10 @@
 -- What a command makes of the rules of each level.
-use Rattle.std.proofs.Common.{◌≡◌, ◌∷◌, [], suc, List, Bool, true, None, Some, Option, refl, sym, ◌∙◌, ap, subst, arith, map, not}
+use Rattle.std.proofs.Common.{◌≡◌, ◌∷◌, [], suc, List, Bool, true, false, ◌||◌, None, Some, Option, refl, sym, ◌∙◌, ap, subst, arith, map, not}
 use Rattle.std.proofs.lemmas.Bool.{false_from_ne_true}
 use Rattle.std.proofs.lemmas.Bool.Decides.{nat_tests}
 use Rattle.uid_ranges.specs.Range.{holds}
 use Rattle.uid_ranges.specs.Ranges.{AreDisjoint, meets_any, self_meets, has as has_range}
 use Rattle.uid_ranges.specs.declared.range.UidRange.{UidRange}
-use Rattle.uid_ranges.proofs.Disjoint.{neither}
 use Rattle.rule_law.specs.Rules.{has, HasEachOnce}
 use Rattle.rule_law.specs.Parts.{TurnsInto}
 use Rattle.rule_law.proofs.Turning.{TurnsInto-same}
@@ -19,6 +18,11 @@ use Rattle.policy_state.specs.declared.command.Command.TheVariants.{LockdownAdd,
 use Rattle.policy_state.proofs.Goodness.{good-changed}
 use Rattle.policy_state.proofs.Levels.{InRow, in_row, one_place}
 use Rattle.rule_compile.proofs.Rows.{row-comes, row-goes}
+
+-- neither of two tests holds
+neither : (a b : Bool) → (a || b) ≡ false → (a ≡ false) × (b ≡ false)
+neither true b h = cc
+neither false b h = (refl, h)
 
 -- each level has each of its rules once
 

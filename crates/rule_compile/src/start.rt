@@ -1,6 +1,6 @@
 ghost use Rattle.std.specs.Prelude.{◌≡◌, [], IfOk};
 ghost use Rattle.policy_state.specs.Table.{start_rules};
-ghost use Rattle.rule_compile.specs.Asked.{twins};
+ghost use Rattle.kernel_model.specs.Switch.{twins};
 
 use crate::requests::twins;
 use crate::table::rules;
