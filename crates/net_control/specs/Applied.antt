@@ -10,13 +10,10 @@ use Rattle.policy_state.specs.Step.{refusal, changed}
 use Rattle.policy_state.specs.View.{StateView}
 use Rattle.policy_state.specs.declared.command.Command.{Command}
 use Rattle.rule_compile.specs.Asked.{asked_adds, asked_deletes}
+use Rattle.net_control.specs.Limit.{journal_limit}
 use Rattle.net_control.specs.View.{ControllerView, running}
 use Rattle.net_control.specs.declared.controller.Answer.{Answer}
 use Rattle.net_control.specs.declared.controller.Answer.TheVariants as answer
-
--- the most entries that a journal may have
-abbrev pub journal_limit : ℕ
-journal_limit = 1000000
 
 abbrev pub adds_of : StateView → Command → List Request
 adds_of state command = asked_adds state (changed state command)

@@ -1,3 +1,4 @@
+pub mod Limit
 pub mod View
 pub mod Applied
 pub mod Started

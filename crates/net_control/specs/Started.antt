@@ -4,7 +4,7 @@ use Rattle.kernel_model.specs.Segment.{done, IsUndoneAt, IsHalted}
 use Rattle.kernel_model.specs.View.{KernelView, grown}
 use Rattle.kernel_model.specs.declared.request.Entry.{Entry}
 use Rattle.kernel_model.specs.declared.request.Request.{Request}
-use Rattle.kernel_model.specs.Twins.{twins}
+use Rattle.kernel_model.specs.Switch.{twins}
 use Rattle.policy_state.specs.Table.{start_rules}
 use Rattle.policy_state.specs.View.{start}
 use Rattle.net_control.specs.View.{ControllerView, running}

@@ -1,4 +1,5 @@
-ghost use Rattle.std.specs.Prelude.{◌≡◌, ◌≤◌, ◌+◌, ◌*◌, [], OnOk, IfOk, length};
+ghost use Rattle.std.specs.Prelude.{◌≡◌, ◌≤◌, ◌<◌, ◌+◌, ◌*◌, [], OnOk, IfOk, MatchOption, length};
+ghost use Rattle.net_control.specs.Limit.{journal_limit};
 ghost use Rattle.kernel_model.specs.View.{grown};
 ghost use Rattle.policy_state.specs.View.{start};
 
@@ -13,6 +14,9 @@ use thiserror::Error;
 
 /// The most entries that a journal may have.
 pub const JOURNAL_LIMIT: u64 = 1_000_000;
+
+/// The start's six additions, and undoing them.
+const START_REQUESTS: u64 = 12;
 
 /// Why a controller didn't start. A request's number is its place in the kernel's journal, counted from 1.
 #[derive(Debug, Drop, Error)]
@@ -55,9 +59,21 @@ impl Model for Controller {
     ghost view = { λ c. record { state = c.state; halted = c.halted } };
 }
 
-// The most requests that carrying a plan takes: each addition may have to be undone.
-fn most_requests(plan: &Plan) -> u64 {
-    2 * plan.adds().len() as u64 + plan.deletes().len() as u64
+// The most requests that carrying a plan takes, since each addition may have to be undone; none where the journal has no
+// room for so many.
+fn room_for<K: Kernel>(kernel: &K, plan: &Plan) -> Option<u64>
+    ensures { MatchOption result
+        (journal_limit < length (K.seen kernel.now).journal + (2 * length plan.now.adds + length plan.now.deletes))
+        (λ most. (most ≡ 2 * length plan.now.adds + length plan.now.deletes) × (length (K.seen kernel.now).journal + most ≤ journal_limit)) }
+{
+    let adds = plan.add_count() as u64;
+    let deletes = plan.delete_count() as u64;
+    let most = adds.checked_mul(2)?.checked_add(deletes)?;
+    let entries = kernel.entry_count().checked_add(most)?;
+    if entries > JOURNAL_LIMIT {
+        return None;
+    }
+    Some(most)
 }
 
 impl Controller {
@@ -74,7 +90,7 @@ impl Controller {
         let state = State::start(alloc).map_err(StartFault::Memory)?;
         let plan = start_plan(alloc).map_err(StartFault::Memory)?;
         kernel
-            .reserve(most_requests(&plan))
+            .reserve(START_REQUESTS)
             .map_err(StartFault::Memory)?;
         match carry(&plan, kernel) {
             Carried::Done => Ok(Controller {
@@ -120,12 +136,11 @@ impl Controller {
             Ok(plan) => plan,
             Err(_) => return Answer::NoMemory,
         };
-        let most = most_requests(&plan);
-        if kernel.entry_count() + most > JOURNAL_LIMIT {
+        let Some(most) = room_for(kernel, &plan) else {
             return Answer::Refused {
                 code: Code::NoSpace,
             };
-        }
+        };
         if kernel.reserve(most).is_err() {
             return Answer::NoMemory;
         }
