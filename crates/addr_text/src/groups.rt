@@ -18,7 +18,7 @@ fn filled_up(left: &[u16], right: &[u16]) -> Option<Parts>
     for group in left {
         groups.push(*group);
     }
-    for _ in left.len() + right.len()..8 {
+    for _place in left.len() + right.len()..8 {
         groups.push(0);
     }
     for group in right {

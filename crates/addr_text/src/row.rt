@@ -51,7 +51,7 @@ pub fn parts_of(value: u128, form: Form) -> Parts
 {
     let mut parts = Parts::new();
     let mut rest = value;
-    for _ in 0..form.count() {
+    for _done in 0..form.count() {
         parts.insert(0, (rest % form.base()) as u16);
         rest /= form.base();
     }
