@@ -1,0 +1,9 @@
+//! A table of routes, as a list.
+#![tactic(auto)]
+
+mod table;
+
+pub use table::Table;
+
+#[cfg(test)]
+mod tests;
