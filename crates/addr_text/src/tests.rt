@@ -3,7 +3,7 @@ use prefixes::{Addr, Prefix};
 use std::process::Abort;
 use std::test::Fail;
 
-// The groups of an IPv6 address as a number.
+// The groups 2001 and db8 and six zeros.
 const DOCUMENTED: u128 = 0x2001_0db8 << 96;
 
 /// The address is written so, and what is written is read as the address.
