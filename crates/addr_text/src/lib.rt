@@ -4,11 +4,16 @@
 
 mod form;
 mod groups;
+mod laws;
 mod read;
 mod row;
 mod run;
 mod split;
 mod write;
 
+pub use laws::{one_value, recommended_text, what_is_written};
 pub use read::{read_addr, read_prefix};
 pub use write::{write_addr, write_prefix};
+
+#[cfg(test)]
+mod tests;

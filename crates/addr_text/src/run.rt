@@ -1,4 +1,4 @@
-ghost use Rattle.std.specs.Prelude.{◌≡◌};
+ghost use Rattle.std.specs.Prelude.{◌≡◌, ◌+◌, ◌≤◌, length};
 ghost use Rattle.addr_text.specs.Canonical.{longest_run};
 
 /// A run of zero groups.
@@ -12,7 +12,8 @@ pub struct Run {
 
 /// The longest run of zeros, the first of equally long ones.
 pub fn longest_run(groups: &[u16]) -> Run
-    ensures { result ≡ longest_run groups.now }
+    ensures value { result ≡ longest_run groups.now }
+    ensures within { result.start + result.len ≤ length groups.now }
 {
     let mut zeros = 0;
     let mut longest = Run {
