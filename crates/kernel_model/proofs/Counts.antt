@@ -1,11 +1,11 @@
 -- How many refusals and breaks a segment has.
-use Rattle.std.proofs.Common.{◌≡◌, ℕ, zero, suc, ◌+◌, Bool, true, false, cond, List, [], ◌∷◌, ◌++◌, length, map, reverse, take, filter, refl, sym, ◌∙◌, ap, length-append, inl, inr}
+use Rattle.std.proofs.Common.{◌≡◌, ℕ, zero, suc, ◌+◌, Bool, true, false, cond, List, [], ◌∷◌, ◌++◌, length, map, reverse, take, filter, refl, ◌∙◌, ap, length-append, inl, inr}
 use Rattle.std.specs.Prelude.{◌⊎◌}
 use Rattle.std.proofs.lemmas.Bool.{cases_Bool}
 use Rattle.std.proofs.lemmas.List.Elements.{filter-append}
 use Rattle.kernel_model.specs.View.{KernelView, grown, refusals_of, breaks_of}
 use Rattle.kernel_model.specs.Journal.{entry, is_refused, is_broken}
-use Rattle.kernel_model.specs.Segment.{done, undone, IsWhole, IsHalted, IsUndoneAt}
+use Rattle.kernel_model.specs.Segment.{done, undone, IsWhole, IsHalted}
 use Rattle.kernel_model.specs.declared.request.Entry.{Entry}
 use Rattle.kernel_model.specs.declared.request.EntryKind.{EntryKind}
 use Rattle.kernel_model.specs.declared.request.EntryKind.TheVariants.{Added, Deleted, Refused, Broken}

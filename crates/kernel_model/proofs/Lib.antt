@@ -3,3 +3,10 @@ pub mod Sames
 pub mod Requests
 pub mod Undoing
 pub mod Counts
+pub mod Seen
+pub mod Alls
+pub mod Held
+pub mod Stopped
+pub mod Switches
+pub mod Standing
+pub mod Segments

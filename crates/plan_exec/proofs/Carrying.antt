@@ -12,6 +12,7 @@ use Rattle.kernel_model.specs.declared.request.Request.{Request}
 use Rattle.kernel_model.specs.declared.request.Request.TheVariants as req
 use Rattle.kernel_model.specs.declared.request.EntryKind.{EntryKind}
 use Rattle.kernel_model.specs.declared.request.EntryKind.TheVariants.{Added, Deleted, Refused}
+use Rattle.kernel_model.proofs.Alls.{all-append, all-append_parts, all-reverse, all-take}
 use Rattle.kernel_model.proofs.Replays.{replay-append}
 use Rattle.kernel_model.proofs.Sames.{same_request-sym}
 use Rattle.kernel_model.proofs.Requests.{absent-after_add, present-after_add, present-of_added, present-after_delete}
@@ -98,23 +99,6 @@ added_present k (q ∷ qs) =
 pub present_refused : (k : Standing) (q : Request) (ps : List Request) → AllByRecursion (Present k) ps → AllByRecursion (Present (noted k (entry Refused q))) ps
 present_refused k q [] all = tt
 present_refused k q (p ∷ ps) all = (ap (λ s. is_present s p) (state-noted k Refused q) ∙ all.0, present_refused k q ps all.1)
-
-all-append : (P : Request → Type 0) (xs ys : List Request) → AllByRecursion P xs → AllByRecursion P ys → AllByRecursion P (xs ++ ys)
-all-append P [] ys h k = k
-all-append P (x ∷ xs) ys h k = (h.0, all-append P xs ys h.1 k)
-
-all-append_parts : (P : Request → Type 0) (xs ys : List Request) → AllByRecursion P (xs ++ ys) → AllByRecursion P xs × AllByRecursion P ys
-all-append_parts P [] ys h = (tt, h)
-all-append_parts P (x ∷ xs) ys h = let rest = all-append_parts P xs ys h.1 in ((h.0, rest.0), rest.1)
-
-pub all-reverse : (P : Request → Type 0) (xs : List Request) → AllByRecursion P xs → AllByRecursion P (reverse xs)
-all-reverse P [] h = tt
-all-reverse P (x ∷ xs) h = rw (reverse-append (x ∷ []) xs) (all-append P (reverse xs) (x ∷ []) (all-reverse P xs h.1) (h.0, tt))
-
-pub all-take : (P : Request → Type 0) (n : ℕ) (xs : List Request) → AllByRecursion P xs → AllByRecursion P (take n xs)
-all-take P zero xs h = tt
-all-take P (suc n) [] h = tt
-all-take P (suc n) (x ∷ xs) h = (h.0, all-take P n xs h.1)
 
 pub distinct_parts : (xs ys : List Request) → Distinct (xs ++ ys) → Distinct xs × Distinct ys
 distinct_parts [] ys h = (tt, h)

@@ -12,6 +12,7 @@ use Rattle.kernel_model.specs.declared.request.Entry.{Entry}
 use Rattle.kernel_model.specs.declared.request.EntryKind.TheVariants.{Refused, Broken}
 use Rattle.kernel_model.specs.declared.request.Request.{Request}
 use Rattle.kernel_model.specs.declared.request.Request.TheVariants as req
+use Rattle.kernel_model.proofs.Alls.{all-take}
 use Rattle.kernel_model.proofs.Counts.{refusals-grown, breaks-grown, refused-done, broken-done, refused-undone, broken-undone, broken-halted}
 use Rattle.kernel_model.proofs.Replays.{replay-append, well_asked-append}
 use Rattle.kernel_model.proofs.Undoing.{replay-undone}
@@ -19,7 +20,6 @@ use Rattle.plan_exec.specs.MayCarry.{MayCarry, ReadyFor}
 use Rattle.plan_exec.specs.Carries.{Carries, IsCaused, IsAsBefore}
 use Rattle.plan_exec.specs.declared.Carried.{Carried}
 use Rattle.plan_exec.specs.declared.Carried.TheVariants.{Done, Undone, Halted}
-use Rattle.plan_exec.proofs.Carrying.{all-take}
 
 refusals_are : (old new : KernelView) (es known : List Entry) → new ≡ grown old es → filter is_refused es ≡ known → refusals_of new ≡ refusals_of old + length known
 refusals_are old new es known grew is = ap refusals_of grew ∙ refusals-grown old es ∙ ap (λ l. refusals_of old + length l) is
