@@ -10,3 +10,6 @@ mod table;
 pub use laws::{plan_ends, plan_law, requests_can_be_asked, tables_are_lawful};
 pub use requests::plan;
 pub use table::{rule_count, rules};
+
+#[cfg(test)]
+mod tests;
