@@ -1,0 +1,4 @@
+pub mod Givers
+pub mod Loopback
+pub mod Answers
+pub mod Meaning

@@ -60,11 +60,11 @@ rest s p = if is_explicit p.mark then None else asks_local s p
 
 abbrev pub policy_made : StateView → Packet → Verdict
 policy_made s p = first_answer (
-      (if is_loopback p.dest && may_use_lo p.outgoing then Some verdict.Local else None)
-      ∷ (if is_barred s p then Some verdict.Prohibited else None)
-      ∷ chosen s p
-      ∷ rest s p
-      ∷ [])
+    (if is_loopback p.dest && may_use_lo p.outgoing then Some verdict.Local else None)
+    ∷ (if is_barred s p then Some verdict.Prohibited else None)
+    ∷ chosen s p
+    ∷ rest s p
+    ∷ [])
 
 abbrev pub policy_passed : StateView → Packet → Verdict
 policy_passed s p = first_answer ((if is_loopback p.dest then Some verdict.Local else None) ∷ asks_local s p ∷ [])

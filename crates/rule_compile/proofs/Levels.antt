@@ -1,6 +1,6 @@
 -- What a command makes of the rules of each level.
-use Rattle.std.proofs.Common.{◌≡◌, ◌∷◌, [], suc, List, Bool, true, false, ◌||◌, None, Some, Option, refl, sym, ◌∙◌, ap, subst, arith, map, not}
-use Rattle.std.proofs.lemmas.Bool.{false_from_ne_true}
+use Rattle.std.proofs.Common.{◌≡◌, ◌∷◌, [], suc, List, Bool, true, None, Some, refl, ap, subst, arith, map, not}
+use Rattle.std.proofs.lemmas.Bool.{false_from_ne_true, or_parts}
 use Rattle.std.proofs.lemmas.Bool.Decides.{nat_tests}
 use Rattle.uid_ranges.specs.Range.{holds}
 use Rattle.uid_ranges.specs.Ranges.{AreDisjoint, meets_any, self_meets, has as has_range}
@@ -12,17 +12,12 @@ use Rattle.rule_match.specs.declared.rule.Rule.{Rule}
 use Rattle.kernel_model.specs.Kind.{rule_kind}
 use Rattle.policy_state.specs.View.{StateView, IsGood}
 use Rattle.policy_state.specs.Step.{refusal, changed}
-use Rattle.policy_state.specs.Table.{Level, Lockdown, Explicit, LocalNetwork, Last, rules_at, lockdown_rule, explicit_local_rule, local_rule, last_rule}
+use Rattle.policy_state.specs.Table.{Level, Lockdown, Explicit, LocalNetwork, Last, rules_at, lockdown_rule}
 use Rattle.policy_state.specs.declared.command.Command.{Command}
 use Rattle.policy_state.specs.declared.command.Command.TheVariants.{LockdownAdd, LockdownRemove}
 use Rattle.policy_state.proofs.Goodness.{good-changed}
 use Rattle.policy_state.proofs.Levels.{InRow, in_row, one_place}
 use Rattle.rule_compile.proofs.Rows.{row-comes, row-goes}
-
--- neither of two tests holds
-neither : (a b : Bool) → (a || b) ≡ false → (a ≡ false) × (b ≡ false)
-neither true b h = cc
-neither false b h = (refl, h)
 
 -- each level has each of its rules once
 
@@ -39,7 +34,7 @@ lockdown-once (range ∷ ranges) disjoint = (
       let there : holds row.item range.first.number ≡ true = subst (λ r. holds r range.first.number ≡ true) same (holds_first range) in
       let places : 0 ≡ suc row.place = one_place (range ∷ ranges) 0 (suc row.place) range.first.number range row.item disjoint refl row.at (holds_first range) there in
       omega arith),
-  lockdown-once ranges (neither (meets_any range ranges) (self_meets ranges) disjoint).1,
+  lockdown-once ranges (or_parts (meets_any range ranges) (self_meets ranges) disjoint).1,
 )
 
 pub level-once : (s : StateView) → IsGood s → (level : Level) → HasEachOnce rule_kind (rules_at s level)

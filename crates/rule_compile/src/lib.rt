@@ -3,10 +3,15 @@
 #![tactic(auto)]
 
 mod difference;
+mod laws;
 mod requests;
 mod start;
 mod table;
 
+pub use laws::{plan_ends, plan_law, requests_can_be_asked, tables_are_lawful};
 pub use requests::plan;
 pub use start::start_plan;
 pub use table::{rule_count, rules};
+
+#[cfg(test)]
+mod tests;

@@ -1,6 +1,6 @@
 ghost use Rattle.std.specs.Prelude.{◌≡◌, ◌+◌, ◌*◌, ◌++◌, IfOk, List, reverse};
-ghost use Rattle.rule_compile.specs.Asked.{asked};
 ghost use Rattle.kernel_model.specs.Switch.{twins};
+ghost use Rattle.rule_compile.specs.Asked.{asked};
 
 use crate::difference::{beyond, middles};
 use crate::table::rules;
@@ -11,7 +11,7 @@ use rule_match::Rule;
 use std::alloc::{AllocError, Global};
 
 /// Each rule for IPv4 and then for IPv6.
-pub(crate) fn twins(alloc: Global, rules: &[Rule]) -> Result<Vec<Request>, AllocError>
+fn twins(alloc: Global, rules: &[Rule]) -> Result<Vec<Request>, AllocError>
     ensures { IfOk result (λ requests. requests.items ≡ twins rules.now) }
 {
     let mut requests = Vec::new(alloc);

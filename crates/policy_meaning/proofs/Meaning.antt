@@ -1,0 +1,63 @@
+-- A kernel that stands for a state sends every packet where the policy says.
+use Rattle.std.proofs.Common.{◌≡◌, ◌≢◌, ◌&&◌, ◌∷◌, [], Bool, true, false, None, Some, Option, unwrap_or, refl, sym, ◌∙◌, ap, map, inl, inr, arith}
+use Rattle.std.specs.Prelude.{if◌then◌else◌, IsNone}
+use Rattle.std.specs.Option.{option_map}
+use Rattle.std.proofs.lemmas.Bool.{cases_Bool, eq-eqb, false≢true}
+use Rattle.prefixes.specs.Addr.{family_of}
+use Rattle.prefixes.specs.Best.{answer}
+use Rattle.rule_law.specs.Rules as law
+use Rattle.rule_law.proofs.Statements.{stands_walks}
+use Rattle.rule_match.specs.Packet.{is_made}
+use Rattle.rule_match.specs.declared.packet.Packet.{Packet}
+use Rattle.rule_match.specs.declared.verdict.Verdict.{Verdict}
+use Rattle.rule_match.specs.declared.verdict.Verdict.TheVariants as verdict
+use Rattle.kernel_model.specs.Kind.{rule_kind}
+use Rattle.kernel_model.specs.Stands.{Stands}
+use Rattle.kernel_model.specs.State.{KernelState, rules_of, routes_of, own_rule}
+use Rattle.kernel_model.specs.Walk.{rule_gives, verdict_by, walk}
+use Rattle.policy_state.specs.View.{StateView, IsGood}
+use Rattle.policy_state.specs.Table.{levels, rule_table, route_list}
+use Rattle.policy_meaning.specs.Policy.{first_answer, is_loopback, may_use_lo, local_routes, policy}
+use Rattle.policy_meaning.proofs.Givers.{with_own-rises, with_own-givers}
+use Rattle.policy_meaning.proofs.Loopback.{own-gives}
+use Rattle.policy_meaning.proofs.Answers.{given-one, selects_all, only_if, walk-append, walk-levels, says, level-says}
+
+-- the packet is for the device itself
+abbrev to_device : Packet → Option Verdict
+to_device p = if is_loopback p.dest && may_use_lo p.outgoing then Some verdict.Local else None
+
+none_is : {X : Type 0} (o : Option X) → IsNone o → o ≡ None
+none_is None h = refl
+none_is (Some x) h = absurd (false≢true (sym h))
+
+-- the levels one after another say what the policy says
+as_policy : (s : StateView) (p : Packet) → first_answer (to_device p ∷ map (says s p) levels) ≡ policy s p
+as_policy s p = elim (cases_Bool (is_made p)) [
+  | inl made ↦ rw made refl
+  | inr passed ↦
+      let came : p.incoming ≢ 1 = λ e. false≢true (sym passed ∙ eq-eqb p.incoming 1 e) in
+      let mark : p.mark ≡ 0 = p.no_mark_passed came in
+      let bound : p.outgoing ≡ None = none_is p.outgoing (p.not_bound_passed came) in
+      rw (passed, mark, bound) (plain (is_loopback p.dest))
+]
+  where
+    plain : (b : Bool) → unwrap_or (if b && true then Some verdict.Local else None) verdict.Unreachable ≡ unwrap_or (if b then Some verdict.Local else None) verdict.Unreachable
+    plain true = refl
+    plain false = refl
+
+module _ (s : StateView) (k : KernelState) (p : Packet) (good : IsGood s) (stands : Stands k (rule_table s) (route_list s)) where
+  own-says : rule_gives k.tables p own_rule ≡ to_device p
+  own-says =
+      ap (λ b. only_if (option_map (verdict_by 255) (answer (routes_of 255 k.tables) p.dest p.outgoing)) (b && true)) (selects_all p.mark)
+      ∙ (ap (λ routes. option_map (verdict_by 255) (answer routes p.dest p.outgoing)) stands.own_table ∙ own-gives p.dest p.outgoing)
+
+  local : routes_of 97 k.tables ≡ local_routes s
+  local = stands.in_table 97 (λ e. omega (arith, e))
+
+  pub table_means_policy : walk k p ≡ policy s p
+  table_means_policy =
+      stands_walks rule_kind (rule_gives k.tables p) verdict.Unreachable (rules_of k (family_of p.dest)) (own_rule ∷ rule_table s)
+      (with_own-rises s) (with_own-givers s k.tables p good) (stands.in_family (family_of p.dest))
+      ∙ (walk-append (rule_gives k.tables p) verdict.Unreachable (own_rule ∷ []) (rule_table s)
+      ∙ (ap (λ o. unwrap_or o (law.walk (rule_gives k.tables p) verdict.Unreachable (rule_table s))) (given-one (rule_gives k.tables p) own_rule ∙ own-says)
+      ∙ (ap (λ v. unwrap_or (to_device p) v) (walk-levels (rule_gives k.tables p) s (says s p) (level-says s k.tables p local) levels) ∙ as_policy s p)))
