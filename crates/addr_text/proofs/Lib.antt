@@ -1,0 +1,12 @@
+pub mod Bytes
+pub mod Digits
+pub mod Gaps
+pub mod Parts
+pub mod Rows
+pub mod Runs
+pub mod GroupForms
+pub mod Values
+pub mod Families
+pub mod Prefixes
+pub mod Lengths
+pub mod Written
