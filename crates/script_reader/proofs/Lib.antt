@@ -1,0 +1,10 @@
+pub mod Bytes
+pub mod Farthest
+pub mod FormSteps
+pub mod FormTable
+pub mod Fronts
+pub mod Ranges
+pub mod Marks
+pub mod LineOutcomes
+pub mod WordLemmas
+pub mod Written

@@ -1,0 +1,30 @@
+-- What is written of a value spells it.
+use Rattle.std.proofs.Common.{◌≡◌, ℕ, ◌<◌, ◌≤◌, ◌^◌, List, length, refl, arith}
+use Rattle.std.specs.Fmt.{decimal}
+use Rattle.number_text.proofs.Spelled.{SpellsDecimal-decimal, SpellsHexadecimal-hexadecimal, length-digits-le}
+use Rattle.number_text.specs.Numbers.{hexadecimal}
+use Rattle.uid_ranges.specs.declared.range.Uid.{Uid}
+use Rattle.uid_ranges.specs.declared.range.UidRange.{UidRange}
+use Rattle.script_reader.specs.Canonical.{mark_text, range_text}
+use Rattle.script_reader.specs.Grammar.{SpellsMark, SpellsRange, SpellsUid}
+
+pub SpellsUid-decimal : (user : Uid) → SpellsUid (decimal user.number) user
+SpellsUid-decimal user = let fits : user.number < 4294967295 = user.in_range in (SpellsDecimal-decimal user.number (omega arith), omega arith)
+
+pub SpellsRange-text : (users : UidRange) → SpellsRange (range_text users.first users.last) users
+SpellsRange-text users = record {
+  first_text = decimal users.first.number;
+  last_text = decimal users.last.number;
+  cut = refl;
+  first = SpellsUid-decimal users.first;
+  last = SpellsUid-decimal users.last;
+  ordered = users.ordered;
+}
+
+pub SpellsMark-text : (bits : ℕ) → bits < 2 ^ 32 → SpellsMark (mark_text bits) bits
+SpellsMark-text bits fits = record {
+  digits = hexadecimal bits;
+  cut = refl;
+  number = SpellsHexadecimal-hexadecimal bits (omega arith);
+  few = length-digits-le 16 8 bits (omega arith) (omega arith) (omega arith) (omega arith);
+}

@@ -1,0 +1,10 @@
+use Rattle.std.proofs.Common.{◌≡◌, ◌+◌, ◌<◌, ℕ, List, length, sym, ap, ◌∙◌, arith}
+use Rattle.std.specs.List.{prefix_len}
+use Rattle.script_reader.specs.Words.{is_no_space}
+use Rattle.script_reader.proofs.WordLemmas.{first_and_others, no_bytes}
+use Rattle.script_reader.proofs.words.Words.first.Goals as goal
+
+pub returns : goal.returns
+returns c =
+    let some : 0 < prefix_len is_no_space c.args.self.now.rest.now = omega (arith, c.word_len-len.ensures.word, c.if-len-eq0.false) in
+    rw c.word_len-len.ensures.word (first_and_others _ c.args.self.now.rest.now c.args.self.now.at_word some)

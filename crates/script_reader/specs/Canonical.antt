@@ -1,0 +1,32 @@
+-- The one text that is written for a line.
+use Rattle.std.specs.Prelude.{ℕ, List, [], ◌∷◌, ◌++◌, codes, map}
+use Rattle.std.specs.Fmt.{decimal}
+use Rattle.std.specs.List.{join_with_byte}
+use Rattle.addr_text.specs.Canonical.{canonical as addr_text}
+use Rattle.number_text.specs.Numbers.{hexadecimal}
+use Rattle.uid_ranges.specs.declared.range.Uid.{Uid}
+use Rattle.script_reader.specs.declared.line.Line.{Line}
+use Rattle.script_reader.specs.declared.line.Line.TheVariants as line
+use Rattle.script_reader.specs.Grammar.{Kind, Piece, ValueOf, dash, literal, uid, range, mark, addr}
+use Rattle.script_reader.specs.Lines.{pieces_of}
+use Rattle.script_reader.specs.Words.{space}
+
+abbrev pub range_text : Uid → Uid → List ℕ
+range_text first last = decimal first.number ++ dash ∷ decimal last.number
+
+abbrev pub mark_text : ℕ → List ℕ
+mark_text bits = codes "0x" ++ hexadecimal bits
+
+abbrev pub value_text : (kind : Kind) → ValueOf kind → List ℕ
+value_text (literal text) value = text
+value_text uid value = decimal value.number
+value_text range value = range_text value.first value.last
+value_text mark value = mark_text value
+value_text addr value = addr_text value
+
+abbrev pub piece_text : Piece → List ℕ
+piece_text piece = value_text piece.kind piece.value
+
+-- the words with one space between each two; nothing for a line that says nothing
+abbrev pub canonical : Line → List ℕ
+canonical line = join_with_byte space (map piece_text (pieces_of line))

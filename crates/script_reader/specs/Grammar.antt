@@ -1,0 +1,65 @@
+-- What stands in the place of a word of the grammar.
+use Rattle.std.specs.Prelude.{◌≡◌, ℕ, ◌≤◌, List, [], ◌∷◌, ◌++◌, codes, length}
+use Rattle.addr_text.specs.Grammar.{Spells as SpellsAddr}
+use Rattle.number_text.specs.Numbers.{SpellsDecimal, SpellsHexadecimal}
+use Rattle.prefixes.specs.declared.addr.Addr.{Addr}
+use Rattle.uid_ranges.specs.declared.range.Uid.{Uid}
+use Rattle.uid_ranges.specs.declared.range.UidRange.{UidRange}
+
+-- A word itself, or a value of a kind.
+pub data Kind : Type 0 where
+  literal : List ℕ → Kind
+  uid : Kind
+  range : Kind
+  mark : Kind
+  addr : Kind
+
+abbrev pub ValueOf : Kind → Type 0
+ValueOf (literal text) = Unit {0}
+ValueOf uid = Uid
+ValueOf range = UidRange
+ValueOf mark = ℕ
+ValueOf addr = Addr
+
+-- a word of a line: what stands in its place, and its value
+pub record Piece : Type 0 where
+  pub kind : Kind
+  pub value : ValueOf kind
+
+-- a decimal number from 0 to 4294967294
+abbrev pub SpellsUid : List ℕ → Uid → Type 0
+SpellsUid text user = SpellsDecimal text user.number × (user.number ≤ 4294967294)
+
+abbrev pub dash : ℕ
+dash = 45
+
+-- two UIDs with '-' between them, the first not above the second
+pub record SpellsRange (text : List ℕ) (users : UidRange) : Type 0 where
+  pub first_text : List ℕ
+  pub last_text : List ℕ
+  pub cut : text ≡ first_text ++ dash ∷ last_text
+  pub first : SpellsUid first_text users.first
+  pub last : SpellsUid last_text users.last
+  pub ordered : users.first.number ≤ users.last.number
+
+-- '0x' and 1 to 8 hexadecimal digits in lower case, with no leading zero other than the number 0 itself
+pub record SpellsMark (text : List ℕ) (word : ℕ) : Type 0 where
+  pub digits : List ℕ
+  pub cut : text ≡ codes "0x" ++ digits
+  pub number : SpellsHexadecimal digits word
+  pub few : length digits ≤ 8
+
+-- the word is spelled so
+abbrev pub IsSpelled : (kind : Kind) → ValueOf kind → List ℕ → Type 0
+IsSpelled (literal word) value text = text ≡ word
+IsSpelled uid value text = SpellsUid text value
+IsSpelled range value text = SpellsRange text value
+IsSpelled mark value text = SpellsMark text value
+IsSpelled addr value text = SpellsAddr text value
+
+-- these words are spelled so, one by one
+abbrev pub AreSpelled : List Piece → List (List ℕ) → Type 0
+AreSpelled [] [] = Unit {0}
+AreSpelled [] (text ∷ texts) = ⊥
+AreSpelled (piece ∷ pieces) [] = ⊥
+AreSpelled (piece ∷ pieces) (text ∷ texts) = IsSpelled piece.kind piece.value text × AreSpelled pieces texts

@@ -1,0 +1,82 @@
+// The values that a word can spell.
+ghost use Rattle.std.specs.Prelude.{◌≡◌, ◌∷◌, ◌++◌, false, ℕ, List, ◌<◌, ◌^◌, codes, IfSome, IfNone, MatchOption};
+ghost use Rattle.addr_text.specs.Forms.{has_byte};
+ghost use Rattle.number_text.specs.Numbers.{SpellsHexadecimal};
+ghost use Rattle.script_reader.specs.Cursor.{Gives};
+ghost use Rattle.script_reader.specs.Grammar.{addr, dash, literal, mark, range, uid};
+
+use addr_text::read_addr;
+use number_text::{read_decimal, read_hexadecimal};
+use prefixes::Addr;
+use uid_ranges::{Uid, UidRange};
+
+/// Whether the word is this text.
+pub fn read_literal(word: &[u8], text: &[u8]) -> Option<()>
+    ensures { Gives (literal text.now) word.now result }
+{
+    if word == text { Some(()) } else { None }
+}
+
+/// The UID that the word spells.
+pub fn read_uid(word: &[u8]) -> Option<Uid>
+    ensures { Gives uid word.now result }
+{
+    Uid::new(read_decimal(word, 4_294_967_294)? as u32)
+}
+
+/// What stands before and behind the first '-'.
+fn split_at_dash(word: &[u8]) -> Option<(&[u8], &[u8])>
+    ensures { MatchOption result
+        (has_byte dash word.now ≡ false)
+        (λ parts. (word.now ≡ parts.0.now ++ dash ∷ parts.1.now) × (has_byte dash parts.0.now ≡ false)) }
+{
+    for (place, byte) in word.iter().enumerate() {
+        if *byte == b'-' {
+            return Some((&word[..place], &word[place + 1..]));
+        }
+    }
+    None
+}
+
+/// The range of UIDs that the word spells.
+pub fn read_range(word: &[u8]) -> Option<UidRange>
+    ensures { Gives range word.now result }
+{
+    let (first, last) = split_at_dash(word)?;
+    UidRange::new(read_uid(first)?, read_uid(last)?)
+}
+
+/// The word's digits as a number of 32 bits.
+fn read_bits(digits: &[u8]) -> Option<u32>
+    ensures some { IfSome result (SpellsHexadecimal digits.now) }
+    ensures none { IfNone result ((bits : ℕ) → bits < 2 ^ 32 → SpellsHexadecimal digits.now bits → ⊥) }
+{
+    Some(read_hexadecimal(digits, 0xffff_ffff)? as u32)
+}
+
+/// What stands behind '0x'.
+fn behind_0x(word: &[u8]) -> Option<&[u8]>
+    ensures { MatchOption result
+        ((digits : List ℕ) → word.now ≡ codes "0x" ++ digits → ⊥)
+        (λ digits. word.now ≡ codes "0x" ++ digits.now) }
+{
+    word.strip_prefix(b"0x")
+}
+
+/// The mark that the word spells.
+pub fn read_mark(word: &[u8]) -> Option<u32>
+    ensures { Gives mark word.now result }
+{
+    let digits = behind_0x(word)?;
+    if digits.len() > 8 {
+        return None;
+    }
+    read_bits(digits)
+}
+
+/// The address that the word spells.
+pub fn read_address(word: &[u8]) -> Option<Addr>
+    ensures { Gives addr word.now result }
+{
+    read_addr(word)
+}
