@@ -3,7 +3,7 @@ use Rattle.std.proofs.Common.{◌≡◌, ◌∙◌, Bool, true, false, List, [],
 use Rattle.std.specs.Str.{bytes_eq}
 use Rattle.clap.specs.Lexer.{long_of, short_of}
 use Rattle.clap.specs.Kinds.{Kinds, or_else}
-use Rattle.clap.specs.Walk.{Row, Rule, Walk, nothing_held, walk_from, walked, settled, settled_rows, used, idle, option, finished, first_of, rows_after}
+use Rattle.clap.specs.Walk.{Row, Rule, Walk, nothing_held, walk_from, walked, settled, settled_rows, used, idle, option, finished, rows_after}
 use Rattle.clap.specs.Simple.{App, Shape, filled, built, built_leaf, inherited, marked_built, with_leaf_noted, names_of, entered, subcommand_of}
 use Rattle.clap.specs.Faults.{fault_of, level_fault, walk_fault, entered_fault, settle_fault, defaults_fault, check_fault, turn_fault, is_simple_and_free}
 use Rattle.clap.proofs.OnLiterals.{clap_on_literals}

@@ -6,7 +6,7 @@ use Rattle.clap.specs.Lexer.{long_of}
 use Rattle.clap.specs.Kinds.{Kinds, IsAmong}
 use Rattle.clap.specs.declared.error.kind.ErrorKind.{ErrorKind}
 use Rattle.clap.specs.Walk.{Row}
-use Rattle.clap.specs.Simple.{subcommand_of}
+use Rattle.clap.specs.Simple.{App, subcommand_of}
 use Rattle.clap.specs.Faults.{fault_of}
 use Rattle.command_words.specs.App.{netd_app}
 use Rattle.command_words.specs.Forms.{Text}
@@ -100,7 +100,7 @@ refused_none (w ∷ rest) e = by (bytes_eq (codes "run") w) refl
     by true same = run_refused rest (in_rest (is_refused w) refl e (named (codes "run") w same)) None nothing_given
     by false same = refl
 
-pub are_clean : (words : List Text) → has_refused words ≡ false → AreClean words
+are_clean : (words : List Text) → has_refused words ≡ false → AreClean words
 are_clean [] e = tt
 are_clean (w ∷ rest) e = by (is_refused w) refl e (are_clean rest)
   where
@@ -110,12 +110,18 @@ are_clean (w ∷ rest) e = by (is_refused w) refl e (are_clean rest)
 
 -- ---- the two ends of the parse
 
-pub refused_given : (words : List Text) (k : ErrorKind) → AreClean words → IsAmong k (fault_of netd_app words) → words_given words ≡ None
-refused_given words k clean among = sym (clean_agrees words clean) ∙ ap (λ b. if b then None else read_found (subcommand_of netd_app words)) (is_some_fault (fault_of netd_app words) among)
+-- no fault of the words' command means that the walk gives what the code reads
+pub taken_given : (app : App) (words : List Text) → app ≡ netd_app → has_refused words ≡ false → fault_of app words ≡ [] → read_found (subcommand_of app words) ≡ words_given words
+taken_given app words same clean fits =
+    ap (λ (a : App). read_found (subcommand_of a words)) same
+    ∙ sym (ap (λ (l : Kinds). outcome l (subcommand_of netd_app words)) (ap (λ (a : App). fault_of a words) (sym same) ∙ fits))
+    ∙ clean_agrees words (are_clean words clean)
+
+-- a fault means that it gives nothing
+pub refused_given : (app : App) (words : List Text) (k : ErrorKind) → app ≡ netd_app → has_refused words ≡ false → IsAmong k (fault_of app words) → words_given words ≡ None
+refused_given app words k same clean among =
+    sym (clean_agrees words (are_clean words clean)) ∙ refused words (is_some_fault (fault_of netd_app words) (subst (IsAmong k) (ap (λ (a : App). fault_of a words) same) among))
   where
     is_some_fault : (ks : Kinds) → IsAmong k ks → is_fault ks ≡ true
     is_some_fault [] h = absurd h
     is_some_fault (x ∷ xs) h = refl
-
-pub taken_given : (words : List Text) → AreClean words → fault_of netd_app words ≡ [] → read_found (subcommand_of netd_app words) ≡ words_given words
-taken_given words clean fits = sym (ap (λ (l : Kinds). outcome l (subcommand_of netd_app words)) fits) ∙ clean_agrees words clean

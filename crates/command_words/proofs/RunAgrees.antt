@@ -4,7 +4,7 @@ use Rattle.std.proofs.lemmas.Slice.Eq.{bytes_eq-Decides}
 use Rattle.std.specs.Str.{bytes_eq}
 use Rattle.clap.specs.Lexer.{long_of}
 use Rattle.clap.specs.Kinds.{Kinds}
-use Rattle.clap.specs.Walk.{Row, Walk, walked, first_of, has_row}
+use Rattle.clap.specs.Walk.{Row, Walk, walked, has_row}
 use Rattle.command_words.specs.Forms.{Text}
 use Rattle.command_words.specs.Read.{Given, given_in}
 use Rattle.command_words.specs.Refused.{is_refused}

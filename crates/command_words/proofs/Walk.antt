@@ -1,5 +1,5 @@
 -- The words after `run`, taken one at a time: what stands between the forms and what `clap` does.
-use Rattle.std.proofs.Common.{◌==◌, Bool, true, false, List, [], ◌∷◌, Option, Some, None, codes, if◌then◌else◌, is_some}
+use Rattle.std.proofs.Common.{◌==◌, List, [], ◌∷◌, Option, Some, None, codes, if◌then◌else◌, is_some}
 use Rattle.std.specs.Str.{bytes_eq}
 use Rattle.command_words.specs.Forms.{Text}
 use Rattle.command_words.specs.Read.{Given}

@@ -1,5 +1,5 @@
 -- What a word looks like, as `clap` and as the forms see it.
-use Rattle.std.proofs.Common.{◌≡◌, ◌∙◌, ◌==◌, ◌++◌, ◌+◌, ℕ, suc, Bool, true, false, [], ◌∷◌, Option, Some, None, codes, refl, sym, ap, subst, if◌then◌else◌, take, drop, length, option_and_then, not, ◌||◌, arith, ap₂}
+use Rattle.std.proofs.Common.{◌≡◌, ◌∙◌, ◌==◌, ◌++◌, ◌+◌, ℕ, suc, Bool, true, false, [], ◌∷◌, Option, Some, None, codes, refl, sym, ap, if◌then◌else◌, take, drop, length, option_and_then, not, ◌||◌, arith, ap₂}
 use Rattle.std.proofs.lemmas.Slice.Eq.{bytes_eq-Decides}
 use Rattle.std.proofs.lemmas.Bool.{eqb-true}
 use Rattle.std.specs.Str.{bytes_eq}

@@ -1,4 +1,5 @@
-ghost use Rattle.std.specs.Prelude.{◌≡◌, ℕ, List, Err, IfOk, None, Some, option_map};
+ghost use Rattle.std.specs.Prelude.{◌≡◌, ℕ, List, Err, IfOk};
+ghost use Rattle.std.specs.Option.{option_copied};
 ghost use Rattle.command_words.specs.Forms.{IsList};
 ghost use Rattle.command_words.specs.Read.{IsListOrNone};
 
@@ -36,8 +37,8 @@ pub fn read_list(alloc: Global, text: &str) -> Result<Vec<u64>, WordsFault>
 
 /// The numbers of a list, or none where no list is given.
 pub fn read_list_or_none(alloc: Global, text: Option<&str>) -> Result<Vec<u64>, WordsFault>
-    ensures ok { IfOk result (λ numbers. IsListOrNone (option_map (λ text. text.now) text.entry) numbers.items) }
-    ensures no_form { result ≡ Err WordsFault.NoForm → (numbers : List ℕ) → IsListOrNone (option_map (λ text. text.now) text.entry) numbers → ⊥ }
+    ensures ok { IfOk result (λ numbers. IsListOrNone (option_copied text.entry) numbers.items) }
+    ensures no_form { result ≡ Err WordsFault.NoForm → (numbers : List ℕ) → IsListOrNone (option_copied text.entry) numbers → ⊥ }
 {
     match text {
         None => Ok(Vec::new(alloc)),

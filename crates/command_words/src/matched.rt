@@ -1,4 +1,5 @@
-ghost use Rattle.std.specs.Prelude.{◌≡◌, ℕ, List, Err, IfOk, option_map, codes};
+ghost use Rattle.std.specs.Prelude.{◌≡◌, ℕ, List, Err, IfOk};
+ghost use Rattle.std.specs.Option.{option_copied};
 ghost use Rattle.clap.specs.Matches.{found_of};
 ghost use Rattle.clap.specs.Walk.{rows_of};
 ghost use Rattle.clap.specs.Simple.{subcommand_rows_of};
@@ -14,10 +15,10 @@ use std::alloc::Global;
 
 fn run_by(alloc: Global, refuse: Option<&str>, breaks: Option<&str>) -> Result<Form, WordsFault>
     ensures ok { IfOk result (λ form. Says
-        (record { refuses = option_map (λ text. text.now) refuse.entry; breaks = option_map (λ text. text.now) breaks.entry })
+        (record { refuses = option_copied refuse.entry; breaks = option_copied breaks.entry })
         (view_of form)) }
     ensures no_form { result ≡ Err WordsFault.NoForm → (form : FormView) → Says
-        (record { refuses = option_map (λ text. text.now) refuse.entry; breaks = option_map (λ text. text.now) breaks.entry })
+        (record { refuses = option_copied refuse.entry; breaks = option_copied breaks.entry })
         form → ⊥ }
 {
     let refuse = read_list_or_none(alloc, refuse)?;

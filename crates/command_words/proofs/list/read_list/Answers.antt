@@ -1,4 +1,4 @@
-use Rattle.std.proofs.Common.{◌≡◌, ◌∙◌, ◌++◌, ◌<◌, ◌≤◌, [], ◌∷◌, ap, sym, subst, rules, arith, length, List, ℕ}
+use Rattle.std.proofs.Common.{◌≡◌, ◌∙◌, ◌++◌, ◌<◌, [], ◌∷◌, ap, sym, subst, rules, arith, length, List, ℕ}
 use Rattle.std.specs.Str.Iter.{split_text, split_has_more, split_pattern}
 use Rattle.number_text.specs.Numbers.{SpellsDecimal}
 use Rattle.command_words.proofs.Lists.{rest_from_list, list_from_rest}

@@ -1,8 +1,8 @@
-use Rattle.std.proofs.Common.{◌≡◌, ◌∙◌, ap₂, codes, subst, sym, List, ℕ, Option, Err, IfOk, option_map}
+use Rattle.std.proofs.Common.{◌≡◌, ◌∙◌, ap₂, codes, subst, sym, Option, IfOk, option_map}
 use Rattle.clap.specs.Matches.{found_of}
 use Rattle.clap.specs.Walk.{rows_of}
 use Rattle.clap.proofs.WalkLemmas.{first_value-rows}
-use Rattle.command_words.specs.Forms.{Text, FormView}
+use Rattle.command_words.specs.Forms.{Text}
 use Rattle.command_words.specs.Read.{Given, Says, given_in}
 use Rattle.command_words.specs.View.{view_of}
 use Rattle.command_words.proofs.matched.run_in.Goals as goal
