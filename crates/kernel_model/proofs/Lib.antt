@@ -2,3 +2,11 @@ pub mod Replays
 pub mod Sames
 pub mod Requests
 pub mod Undoing
+pub mod Counts
+pub mod Seen
+pub mod Alls
+pub mod Held
+pub mod Stopped
+pub mod Switches
+pub mod Standing
+pub mod Segments

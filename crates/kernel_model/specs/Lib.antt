@@ -9,3 +9,4 @@ pub mod PlanView
 pub mod Segment
 pub mod Moments
 pub mod Stands
+pub mod Switch

@@ -3,12 +3,14 @@
 #![tactic(auto)]
 
 mod kernel;
+mod laws;
 mod plan;
 mod request;
 mod step;
 mod walk;
 
 pub use kernel::{Armed, Kernel, KernelFault, ask_add, ask_delete};
+pub use laws::{ends, goes_over, goes_over_and_back, moments_go_on};
 pub use plan::Plan;
 pub use request::{Entry, EntryKind, Request};
 pub use step::Step;

@@ -1,3 +1,4 @@
 pub mod Lines
 pub mod Looks
 pub mod Steps
+pub mod Cut

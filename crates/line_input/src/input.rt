@@ -1,4 +1,5 @@
-ghost use Rattle.std.specs.Prelude.{◌≡◌, false, ◌==◌, ◌<◌, ◌≤◌, ◌+◌, [], ◌∷◌, ◌++◌, length, take, IfOk, OnOk, OnErr};
+ghost use Rattle.std.specs.Prelude.{◌≡◌, ◌≢◌, true, false, ◌==◌, ◌<◌, ◌≤◌, ◌+◌, [], ◌∷◌, ◌++◌, length, take, IfOk, OnOk, OnErr};
+ghost use Rattle.std.specs.Bool.{OnTrue, OnFalse};
 ghost use Rattle.std.specs.Io.KnownBytes.{Consumes, Keeps};
 ghost use Rattle.net_io.specs.Streams.{CanCount};
 
@@ -91,6 +92,24 @@ impl Input {
         ensures { result.now ≡ line_of self.now }
     {
         &self.line[..self.length]
+    }
+
+    // The bytes that no line has yet.
+    fn held(&self) -> &[u8]
+        ensures { result.now ≡ held self.now }
+    {
+        &self.piece[self.at..self.filled]
+    }
+
+    /// Whether the source has ended and no byte is held.
+    pub fn is_at_end(&self) -> bool
+        ensures yes { OnTrue result ((self.now.finished ≡ true) × (held self.now ≡ [])) }
+        ensures no { OnFalse result (self.now.finished ≡ true → held self.now ≢ []) }
+    {
+        match self.held() {
+            [] => self.finished,
+            _ => false,
+        }
     }
 
     // Asks for a piece, where no byte is held.

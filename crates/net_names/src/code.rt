@@ -67,7 +67,25 @@ impl Code {
 }
 
 impl fmt::Display for Code {
+    ghost use Rattle.std.specs.Prelude.{Some};
+    ghost use Rattle.net_names.specs.Code.{text_of};
+
+    ghost output = { λ code. Some (text_of code) };
+
     fn fmt<W: fmt::Write>(&self, f: &mut fmt::Formatter<W>) -> fmt::Result {
         f.write_str(self.text())
+    }
+}
+
+#[cfg(test)]
+mod tests {
+    use super::*;
+    use std::test::Fail;
+
+    #[test]
+    fn prints_its_text(rt: HostRuntime) -> Result<(), Fail> {
+        let text = format!(in rt.alloc(); "refused {}", Code::NoSpace)?;
+        assert_eq!(rt; text.as_str(), "refused ENOSPC");
+        Ok(())
     }
 }

@@ -101,3 +101,34 @@ impl Name {
         &self.buffer[..self.len as usize]
     }
 }
+
+#[cfg(test)]
+mod tests {
+    use super::*;
+    use std::collections::HashMap;
+    use std::test::Fail;
+
+    #[test]
+    fn takes_names_alone(rt: HostRuntime) -> Result<(), Fail> {
+        let names = [b"lo".as_slice(), b"rmnet_data0", b"wlan-2.4", b"exactly15bytes_"];
+        for bytes in names {
+            let name = Name::from_bytes(bytes).ok_or("a name")?;
+            assert_eq!(rt; name.as_bytes(), bytes);
+        }
+        let others = [b"".as_slice(), b"sixteen_bytes_16", b"a b", b"a/b", b"a\0", b"\x80"];
+        for bytes in others {
+            assert!(rt; Name::from_bytes(bytes).is_none());
+        }
+        Ok(())
+    }
+
+    #[test]
+    fn keys_a_map(rt: HostRuntime) -> Result<(), Fail> {
+        let mut indices = HashMap::new(rt.alloc());
+        indices.insert(Name::from_bytes(b"wlan0").ok_or("wlan0")?, 2)?;
+        indices.insert(Name::from_bytes(b"wlan1").ok_or("wlan1")?, 3)?;
+        let again = Name::from_bytes(b"wlan0").ok_or("wlan0")?;
+        assert_eq!(rt; indices.get(&again).copied(), Some(2));
+        Ok(())
+    }
+}

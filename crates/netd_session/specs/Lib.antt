@@ -1,4 +1,8 @@
 pub mod Offers
+pub mod StatusNumber
+pub mod EndedView
 pub mod Texts
 pub mod Turns
+pub mod Talks
 pub mod Ending
+pub mod Coming

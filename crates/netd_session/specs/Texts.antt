@@ -17,9 +17,12 @@ numbered n text = decimal n ++ (codes ": " ++ text)
 abbrev pub line_feed : List ℕ
 line_feed = 10 ∷ []
 
+abbrev pub refused_text : Code → List ℕ
+refused_text code = codes "refused " ++ (text_of code ++ line_feed)
+
 abbrev pub answer_text : Answer → List ℕ
 answer_text answer.Done = codes "done" ++ line_feed
-answer_text (answer.Refused code) = codes "refused " ++ (text_of code ++ line_feed)
+answer_text (answer.Refused code) = refused_text code
 answer_text (answer.KernelRefused request) = codes "kernel refused request " ++ (decimal request ++ line_feed)
 answer_text (answer.Halted request) = codes "halted at request " ++ (decimal request ++ line_feed)
 answer_text answer.NoMemory = []

@@ -10,7 +10,7 @@ use Rattle.net_control.specs.Applied.{IsAnswered}
 use Rattle.net_control.specs.View.{ControllerView}
 use Rattle.net_control.specs.declared.controller.Answer.{Answer}
 use Rattle.net_control.specs.declared.controller.Answer.TheVariants as answer
-use Rattle.script_reader.specs.Grammar.{Spells}
+use Rattle.script_reader.specs.Lines.{Spells}
 use Rattle.script_reader.specs.declared.line.Line.{Line}
 use Rattle.script_reader.specs.declared.line.Line.TheVariants as line
 use Rattle.script_reader.specs.declared.line.TraceLine.TheVariants as trace

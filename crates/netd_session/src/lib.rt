@@ -1,12 +1,14 @@
 //! A session: reads lines from a source, answers each before it reads the next, and offers each answer to a sink.
 #![tactic(auto)]
 
-mod answers;
 mod output;
 mod session;
 mod status;
+mod talk;
+mod texts;
 mod turn;
 
+pub use output::offer;
 pub use session::session;
 pub use status::Status;
 pub use turn::{Ended, Said, Turn};

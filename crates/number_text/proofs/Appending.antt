@@ -1,5 +1,8 @@
 -- Texts that are written one behind the other.
-use Rattle.std.proofs.Common.{◌≡◌, ℕ, ◌+◌, List, ◌++◌, length, Result, Ok, Err, IsErr, true, false, ◌∙◌, ap, append_assoc, length-append, subst, arith}
+use Rattle.std.proofs.Common.{◌≡◌, ℕ, ◌+◌, ◌<◌, List, [], ◌∷◌, ◌++◌, length, take, drop, get_or, Result, Ok, Err, IsErr, true, false, ◌∙◌, sym, ap, append_assoc, length-append, subst, arith}
+use Rattle.std.specs.List.{flat_map}
+use Rattle.std.proofs.lemmas.List.{append-nil, take_more, take-append-drop}
+use Rattle.std.proofs.lemmas.List.Concat.{flat_map-append}
 use Rattle.std.specs.declared.vec.Vec.{Vec}
 use Rattle.std.specs.declared.alloc.Global.{Global}
 use Rattle.number_text.specs.Appends.{Appends, BeginsWith}
@@ -41,3 +44,42 @@ both {old} {mid} {new} (Err e) {xs} {ys} first second = record {
 -- the same text, spelled in another way
 pub rewritten : {T E : Type 0} {old new : Vec ℕ Global} {r : Result T E} {xs ys : List ℕ} → xs ≡ ys → Appends old new r xs → Appends old new r ys
 rewritten {old} {new} {r} e first = subst (λ (ws : List ℕ). Appends old new r ws) e first
+
+-- a call that did succeed, with another value
+succeeded : {T T' E E' : Type 0} {old new : Vec ℕ Global} {done : T} {done' : T'} {text : List ℕ} →
+    Appends {E = E} old new (Ok done) text → Appends {E = E'} old new (Ok done') text
+succeeded call = record { written = call.written; front = call.front; full = tt; capacity = call.capacity }
+
+flat_map-more : {X : Type 0} (text_of : X → List ℕ) (xs : List X) (i : ℕ) (x : X) → i < length xs →
+    flat_map text_of (take (i + 1) xs) ≡ flat_map text_of (take i xs) ++ text_of (get_or xs i x)
+flat_map-more text_of xs i x below =
+    ap (flat_map text_of) (take_more xs i x below)
+    ∙ flat_map-append text_of (take i xs) (get_or xs i x ∷ [])
+    ∙ ap (λ (ws : List ℕ). flat_map text_of (take i xs) ++ ws) (append-nil (text_of (get_or xs i x)))
+
+flat_map-rest : {X : Type 0} (text_of : X → List ℕ) (xs : List X) (i : ℕ) → flat_map text_of (take i xs) ++ flat_map text_of (drop i xs) ≡ flat_map text_of xs
+flat_map-rest text_of xs i = sym (flat_map-append text_of (take i xs) (drop i xs)) ∙ ap (flat_map text_of) (take-append-drop i xs)
+
+-- before the first of some texts
+pub nothing_written : {T E : Type 0} (v : Vec ℕ Global) (done : T) → Appends {E = E} v v (Ok done) []
+nothing_written v done = record {
+  written = sym (append-nil v.items);
+  front = ([], sym (append-nil v.items));
+  full = tt;
+  capacity = omega arith;
+}
+
+-- one more of some texts in a row
+pub more_written : {X T T' T'' E E' E'' : Type 0} (text_of : X → List ℕ) (xs : List X) (i : ℕ) (x : X) {old mid new : Vec ℕ Global} {done : T} {done' : T'} (done'' : T'') → i < length xs →
+    Appends {E = E} old mid (Ok done) (flat_map text_of (take i xs)) → Appends {E = E'} mid new (Ok done') (text_of (get_or xs i x)) →
+    Appends {E = E''} old new (Ok done'') (flat_map text_of (take (i + 1) xs))
+more_written text_of xs i x done'' below before one =
+    let joined = both (Ok done'') before (succeeded one) in
+    rewritten (sym (flat_map-more text_of xs i x below)) joined
+
+-- one of some texts failed: so did the whole
+pub one_failed : {X T T' T'' E E' E'' : Type 0} (text_of : X → List ℕ) (xs : List X) (i : ℕ) (x : X) {old mid new : Vec ℕ Global} {done : T} {error : E'} (r : Result T'' E'') → i < length xs → IsErr r →
+    Appends {E = E} old mid (Ok done) (flat_map text_of (take i xs)) → Appends {T = T'} mid new (Err error) (text_of (get_or xs i x)) →
+    Appends old new r (flat_map text_of xs)
+one_failed text_of xs i x {error = error} r below is_err before one =
+    rewritten {r = r} (ap (λ (ws : List ℕ). ws ++ flat_map text_of (drop (i + 1) xs)) (sym (flat_map-more text_of xs i x below)) ∙ flat_map-rest text_of xs (i + 1)) (first_failed r (flat_map text_of (drop (i + 1) xs)) is_err (both (Err error) before one))

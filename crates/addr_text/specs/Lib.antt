@@ -1,0 +1,4 @@
+pub mod Canonical
+pub mod Forms
+pub mod Grammar
+pub mod Recommended

@@ -1,0 +1,5 @@
+pub mod Rules
+pub mod Sames
+pub mod Kinds
+pub mod Kernels
+pub mod Changes

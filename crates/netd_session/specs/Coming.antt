@@ -1,0 +1,27 @@
+-- How far a session has come, each time that it looks for a line.
+use Rattle.std.specs.Prelude.{◌≡◌, ℕ, ◌+◌, ◌≤◌, List, length, None}
+use Rattle.std.specs.Io.KnownBytes.{Consumes, Appends}
+use Rattle.line_input.specs.Cut.{AreFed}
+use Rattle.line_input.specs.Lines.{input_limit}
+use Rattle.net_control.specs.View.{ControllerView, IsKept}
+use Rattle.netd_session.specs.Ending.{World, HasRun}
+use Rattle.netd_session.specs.Talks.{standing}
+use Rattle.netd_session.specs.declared.turn.Turn.{Turn}
+
+-- the lines so far are answered, and these bytes are held behind them
+pub record HasCome (old new : World) (controller : ControllerView) (turns : List Turn) (count : ℕ) (held : List ℕ) (number : ℕ) : Type 0 where
+  pub given : List ℕ
+  pub read : Consumes old.left new.left given
+  pub counted : count ≡ length given
+  pub within : count ≤ input_limit
+  pub lines : List (List ℕ)
+  pub numbered : number ≡ length lines
+  pub cut : AreFed given lines held
+  pub few : number + length held ≤ count
+  pub out : List ℕ
+  pub written : Appends old.written new.written out
+  pub run : HasRun old lines (standing controller new.kernel) turns out
+  pub running : controller.halted ≡ None
+  pub kept : IsKept controller new.kernel
+  pub no_read_fault : new.read_faults ≡ old.read_faults
+  pub no_write_fault : new.write_faults ≡ old.write_faults

@@ -1,0 +1,91 @@
+ghost use Rattle.std.specs.Prelude.{◌≡◌, false, []};
+ghost use Rattle.net_io.specs.Streams.{CanCount};
+ghost use Rattle.netd_session.specs.Ending.{IsSession};
+
+use crate::output::offer;
+use crate::status::Status;
+use crate::talk::Talk;
+use crate::texts::{write_start_halted, write_start_refused};
+use crate::turn::Ended;
+use kernel_model::Kernel;
+use line_input::{Input, InputFault, Met};
+use net_control::{Controller, StartFault};
+use net_io::{Sink, Source, WriteFault};
+use std::alloc::Global;
+
+/// Room for the text of a start that failed.
+const START_ROOM: usize = 64;
+
+// Tells why the start failed, in the room that was taken before it.
+fn tell_start<W: Sink>(fault: StartFault, mut text: Vec<u8>, sink: &mut W) -> Status
+{
+    let (status, wrote) = match fault {
+        StartFault::Refused { request } => (Status::StartRefused, write_start_refused(request, &mut text)),
+        StartFault::Halted { request } => (Status::Halted, write_start_halted(request, &mut text)),
+        StartFault::Memory(fault) => (Status::Memory, Err(fault)),
+    };
+    if wrote.is_err() {
+        return Status::Memory;
+    }
+    match offer(sink, &text) {
+        Ok(()) => status,
+        Err(WriteFault::Failed) => Status::WriteFault,
+        Err(WriteFault::Memory(_)) => Status::Memory,
+    }
+}
+
+// Answers each line before the next is read, until an end.
+fn answer_lines<S: Source, W: Sink, K: Kernel>(
+    source: &mut S,
+    sink: &mut W,
+    kernel: &mut K,
+    talk: &mut Talk,
+) -> Status {
+    let mut input = Input::new();
+    let mut number = 0;
+    loop {
+        match input.next_line(source) {
+            Err(InputFault::Read) => return Status::ReadFault,
+            Err(InputFault::TooLong) => return Status::TooLong,
+            Ok(Met::End) => return Status::Finished,
+            Ok(Met::Line) => {}
+        }
+        number += 1;
+        if let Some(status) = talk.take_line(number, input.line(), sink, kernel) {
+            return status;
+        }
+        if input.is_at_end() {
+            return Status::Finished;
+        }
+    }
+}
+
+/// Reads the lines of a script from the source, carries each out on the kernel and offers its answer to the sink, until
+/// the input or a fault ends it.
+pub fn session<S: Source, W: Sink, K: Kernel>(
+    alloc: Global,
+    source: &mut S,
+    sink: &mut W,
+    kernel: &mut K,
+) -> Ended
+    requires starting { (K.seen kernel.old).journal ≡ [] }
+    requires reads { CanCount (S.faults source.old) }
+    requires writes { CanCount (W.faults sink.old) }
+    requires not_ended { S.ended source.old ≡ false }
+    ensures { IsSession
+        (record { left = S.left source.old; read_faults = S.faults source.old; ended = S.ended source.old; written = W.written sink.old; write_faults = W.faults sink.old; kernel = K.seen kernel.old })
+        (record { left = S.left source.new; read_faults = S.faults source.new; ended = S.ended source.new; written = W.written sink.new; write_faults = W.faults sink.new; kernel = K.seen kernel.new })
+        result }
+{
+    let Ok(text) = Vec::with_capacity(alloc, START_ROOM) else {
+        return Ended::of(Status::Memory, Vec::new(alloc));
+    };
+    match Controller::start(alloc, kernel) {
+        Ok(controller) => {
+            let mut talk = Talk::new(alloc, controller, text);
+            let status = answer_lines(source, sink, kernel, &mut talk);
+            Ended::of(status, talk.into_turns())
+        }
+        Err(fault) => Ended::of(tell_start(fault, text, sink), Vec::new(alloc)),
+    }
+}

@@ -1,0 +1,7 @@
+//! The top call: reads the words of the command line, and runs what they say.
+#![tactic(auto)]
+
+mod run;
+
+pub use netd_session::Status;
+pub use run::run;

@@ -1,0 +1,46 @@
+ghost use Rattle.std.specs.Prelude.{◌≡◌, false, [], map, string_bytes};
+ghost use Rattle.net_io.specs.Streams.{CanCount};
+ghost use Rattle.netd_top.specs.Run.{DoesRun};
+
+use command_words::{Form, WordsFault, read_words, usage};
+use kernel_model::Armed;
+use net_io::{Sink, Source, WriteFault};
+use netd_session::{Status, offer, session};
+use std::alloc::Global;
+
+// Prints the usage text.
+fn tell_usage<W: Sink>(sink: &mut W) -> Status {
+    match offer(sink, usage().as_bytes()) {
+        Ok(()) => Status::BadWords,
+        Err(WriteFault::Failed) => Status::WriteFault,
+        Err(WriteFault::Memory(_)) => Status::Memory,
+    }
+}
+
+/// Does what the words after the program's name say, and gives the exit status. `run` arms the kernel with the two lists
+/// and carries a script out on it; words of no form print the usage text.
+pub fn run<S: Source, W: Sink, K: Armed>(
+    alloc: Global,
+    words: &[String],
+    source: &mut S,
+    sink: &mut W,
+    kernel: &mut K,
+) -> Status
+    requires starting { (K.seen kernel.old).journal ≡ [] }
+    requires reads { CanCount (S.faults source.old) }
+    requires writes { CanCount (W.faults sink.old) }
+    requires not_ended { S.ended source.old ≡ false }
+    ensures { DoesRun (map string_bytes words.now)
+        (record { left = S.left source.old; read_faults = S.faults source.old; ended = S.ended source.old; written = W.written sink.old; write_faults = W.faults sink.old; kernel = K.seen kernel.old })
+        (record { left = S.left source.new; read_faults = S.faults source.new; ended = S.ended source.new; written = W.written sink.new; write_faults = W.faults sink.new; kernel = K.seen kernel.new })
+        result }
+{
+    match read_words(alloc, words) {
+        Ok(Form::Run { refuse, breaks }) => {
+            kernel.arm(refuse, breaks);
+            session(alloc, source, sink, kernel).status()
+        }
+        Err(WordsFault::NoForm) => tell_usage(sink),
+        Err(WordsFault::Memory(_)) => Status::Memory,
+    }
+}

@@ -1,0 +1,4 @@
+mod Turns
+mod Carrying
+mod Forms
+mod Causes

@@ -1,0 +1,8 @@
+//! Where each packet is to go by the policy, and that the rules of a state mean this.
+#![tactic(auto)]
+
+mod decision;
+mod laws;
+
+pub use decision::decide;
+pub use laws::{barred_stays_in, table_means_policy};

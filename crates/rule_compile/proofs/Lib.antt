@@ -1,0 +1,5 @@
+pub mod Middles
+pub mod Twins
+pub mod Rows
+pub mod Levels
+pub mod Tables

@@ -1,0 +1,74 @@
+-- The tables of a state before and after a command are as the two-lists law asks.
+use Rattle.std.proofs.Common.{◌≡◌, ◌≤◌, ◌+◌, ◌∷◌, [], ℕ, List, Bool, true, false, None, Some, Option, is_some, refl, sym, ◌∙◌, ap, subst, arith, lit≤, cond}
+use Rattle.std.specs.Prelude.{flat_map}
+use Rattle.std.proofs.lemmas.Bool.{cases_Bool, false≢true, and_from, eq-eqb}
+use Rattle.rule_law.specs.Rules.{has, NoneBelow, Rises, HasEachOnce, GiversAreAlike}
+use Rattle.rule_law.specs.Plans.{AreOldAndNew}
+use Rattle.rule_law.specs.Parts.{TurnsInto, EachPart, HaveDistinctKeys, KeysRise, ShowKeys}
+use Rattle.rule_law.proofs.Keys.{HasEachOnce-joined, Rises-joined, TurnsInto-joined, each_rises}
+use Rattle.rule_law.proofs.Turning.{TurnsInto-conditions}
+use Rattle.rule_law.proofs.Beside.{own-old_and_new}
+use Rattle.rule_match.specs.Rule.{matches}
+use Rattle.rule_match.specs.declared.packet.Packet.{Packet}
+use Rattle.rule_match.specs.declared.rule.Rule.{Rule}
+use Rattle.kernel_model.specs.Kind.{rule_kind}
+use Rattle.kernel_model.specs.KindLaws.{alike_priority}
+use Rattle.kernel_model.specs.State.{NumberedTable, own_rule}
+use Rattle.kernel_model.specs.Walk.{rule_gives}
+use Rattle.policy_state.specs.View.{StateView, IsGood}
+use Rattle.policy_state.specs.Step.{refusal, changed}
+use Rattle.policy_state.specs.Table.{Level, levels, priority_of, rules_at, rule_table}
+use Rattle.policy_state.specs.declared.command.Command.{Command}
+use Rattle.policy_state.proofs.Goodness.{good-changed}
+use Rattle.policy_state.proofs.Levels.{level-priority}
+use Rattle.rule_compile.proofs.Levels.{level-once, level-turns}
+
+-- what holds of each level holds of each in a list of levels
+each : (P : Level → Type 0) → ((level : Level) → P level) → (some : List Level) → EachPart P some
+each P h [] = tt
+each P h (level ∷ rest) = (h level, each P h rest)
+
+shows : (s : StateView) (some : List Level) → ShowKeys rule_kind priority_of rule_kind.priority (rules_at s) some
+shows s [] = tt
+shows s (level ∷ rest) = (level-priority s level, shows s rest)
+
+distinct : HaveDistinctKeys priority_of levels
+distinct = (refl, (refl, (refl, (refl, tt))))
+
+rising : KeysRise priority_of 1 levels
+rising = (lit≤ tt, (lit≤ tt, (lit≤ tt, (lit≤ tt, tt))))
+
+pub table-rises : (s : StateView) → Rises rule_kind (rule_table s)
+table-rises s = (Rises-joined rule_kind priority_of (rules_at s) 1 levels (shows s levels) rising (each_rises rule_kind priority_of (rules_at s) levels (shows s levels))).0
+
+-- every rule of a table comes behind the kernel's own
+pub table-behind_own : (s : StateView) → NoneBelow rule_kind 1 (rule_table s)
+table-behind_own s = (Rises-joined rule_kind priority_of (rules_at s) 1 levels (shows s levels) rising (each_rises rule_kind priority_of (rules_at s) levels (shows s levels))).1
+
+pub table-once : (s : StateView) → IsGood s → HasEachOnce rule_kind (rule_table s)
+table-once s good =
+    HasEachOnce-joined rule_kind priority_of rule_kind.priority (rules_at s) levels (shows s levels) distinct (each (λ level. HasEachOnce rule_kind (rules_at s level)) (level-once s good) levels)
+
+table-turns : (s : StateView) (command : Command) → IsGood s → refusal s command ≡ None → TurnsInto rule_kind (rule_table s) (rule_table (changed s command))
+table-turns s command good accepted =
+    TurnsInto-joined rule_kind priority_of rule_kind.priority alike_priority (rules_at s) (rules_at (changed s command)) levels
+    (shows s levels) (shows (changed s command) levels) distinct
+    (each (λ level. TurnsInto rule_kind (rules_at s level) (rules_at (changed s command) level)) (level-turns s command good accepted) levels)
+
+pub tables-old_and_new : (s : StateView) (command : Command) → IsGood s → refusal s command ≡ None → AreOldAndNew rule_kind (rule_table s) (rule_table (changed s command))
+tables-old_and_new s command good accepted =
+    let order = TurnsInto-conditions rule_kind (rule_table s) (rule_table (changed s command)) (table-turns s command good accepted) in
+    record {
+      old_rises = table-rises s;
+      new_rises = table-rises (changed s command);
+      old_once = table-once s good;
+      new_once = table-once (changed s command) (good-changed s command good accepted);
+      same_order = order.0;
+      new_behind = order.1;
+    }
+
+-- with the kernel's own rule in front
+pub with_own-old_and_new : (s : StateView) (command : Command) → IsGood s → refusal s command ≡ None → AreOldAndNew rule_kind (own_rule ∷ rule_table s) (own_rule ∷ rule_table (changed s command))
+with_own-old_and_new s command good accepted =
+    own-old_and_new rule_kind own_rule (rule_table s) (rule_table (changed s command)) (table-behind_own s) (table-behind_own (changed s command))
+    (tables-old_and_new s command good accepted)

@@ -1,0 +1,119 @@
+ghost use Rattle.std.specs.Prelude.{◌≡◌, ◌∷◌, [], ◌++◌, length, map, IfOk, OnOk};
+ghost use Rattle.kernel_model.specs.Kind.{rule_kind};
+ghost use Rattle.rule_law.specs.Rules.{HasEachOnce};
+ghost use Rattle.policy_state.specs.Table.{lockdown_rule, explicit_local_rule, local_rule, last_rule, rule_table};
+
+use policy_state::State;
+use rule_match::{Action, Rule};
+use std::alloc::{AllocError, Global};
+use uid_ranges::{RangeList, UidRange};
+
+/// The link `lo`, by which the packets come that the device made.
+const LOOPBACK: u16 = 1;
+
+/// The table of the local network.
+const LOCAL_TABLE: u32 = 97;
+
+/// The bit of a mark that selects a network explicitly.
+const EXPLICIT: u32 = 0x10000;
+
+/// The bit of a mark that keeps a packet from VPNs and from lockdown.
+const PROTECTED: u32 = 0x20000;
+
+/// A packet's mark selects this network explicitly, by these bits and the id.
+const SELECTS_LOCAL: u32 = 0x10063;
+const SELECTION: u32 = 0x1ffff;
+
+const LOCKDOWN_PRIORITY: u32 = 12500;
+const EXPLICIT_PRIORITY: u32 = 13000;
+const LOCAL_PRIORITY: u32 = 17000;
+const LAST_PRIORITY: u32 = 32000;
+
+fn lockdown_rule(range: UidRange) -> Rule
+    ensures { result ≡ lockdown_rule range }
+{
+    Rule {
+        priority: LOCKDOWN_PRIORITY,
+        mark: 0,
+        mask: PROTECTED,
+        incoming: Some(LOOPBACK),
+        outgoing: None,
+        uids: Some(range),
+        action: Action::Prohibit,
+    }
+}
+
+fn explicit_local_rule() -> Rule
+    ensures { result ≡ explicit_local_rule }
+{
+    Rule {
+        priority: EXPLICIT_PRIORITY,
+        mark: SELECTS_LOCAL,
+        mask: SELECTION,
+        incoming: Some(LOOPBACK),
+        outgoing: None,
+        uids: None,
+        action: Action::Table(LOCAL_TABLE),
+    }
+}
+
+fn local_rule() -> Rule
+    ensures { result ≡ local_rule }
+{
+    Rule {
+        priority: LOCAL_PRIORITY,
+        mark: 0,
+        mask: EXPLICIT,
+        incoming: None,
+        outgoing: None,
+        uids: None,
+        action: Action::Table(LOCAL_TABLE),
+    }
+}
+
+fn last_rule() -> Rule
+    ensures { result ≡ last_rule }
+{
+    Rule {
+        priority: LAST_PRIORITY,
+        mark: 0,
+        mask: 0,
+        incoming: None,
+        outgoing: None,
+        uids: None,
+        action: Action::Unreachable,
+    }
+}
+
+fn add_lockdown_rules(rules: &mut Vec<Rule>, ranges: &RangeList) -> Result<(), AllocError>
+    ensures { IfOk result (λ _. rules.new.items ≡ rules.old.items ++ map lockdown_rule ranges.now) }
+{
+    for place in 0..ranges.len() {
+        if let Some(range) = ranges.at(place) {
+            rules.push(lockdown_rule(range))?;
+        }
+    }
+    Ok(())
+}
+
+/// The rules that the kernel is to have in each family for this state, beside its own, in order.
+pub fn rules(alloc: Global, state: &State) -> Result<Vec<Rule>, AllocError>
+    ensures value { IfOk result (λ rules. rules.items ≡ rule_table state.now) }
+
+    // no rule stands twice
+    ensures once { OnOk result (HasEachOnce rule_kind (rule_table state.now)) }
+{
+    let mut rules = Vec::new(alloc);
+    add_lockdown_rules(&mut rules, state.lockdown())?;
+    rules.push(explicit_local_rule())?;
+    rules.push(local_rule())?;
+    rules.push(last_rule())?;
+    Ok(rules)
+}
+
+/// How many rules these are. Takes no memory.
+pub fn rule_count(state: &State) -> u64
+    ensures { result ≡ length (rule_table state.now) }
+{
+    state.lockdown().len() as u64 + 3
+}
