@@ -1,0 +1,127 @@
+-- What `clap` makes of the words is what the walk over them makes.
+use Rattle.std.proofs.Common.{◌≡◌, ◌∙◌, ◌||◌, Bool, true, false, List, [], ◌∷◌, Option, Some, None, codes, refl, sym, ap, ap₂, subst, if◌then◌else◌, is_some}
+use Rattle.std.proofs.lemmas.Slice.Eq.{bytes_eq-Decides}
+use Rattle.std.specs.Str.{bytes_eq}
+use Rattle.clap.specs.Lexer.{long_of}
+use Rattle.clap.specs.Kinds.{Kinds, IsAmong}
+use Rattle.clap.specs.declared.error.kind.ErrorKind.{ErrorKind}
+use Rattle.clap.specs.Walk.{Row}
+use Rattle.clap.specs.Simple.{App, subcommand_of}
+use Rattle.clap.specs.Faults.{fault_of}
+use Rattle.command_words.specs.App.{netd_app}
+use Rattle.command_words.specs.Forms.{Text}
+use Rattle.command_words.specs.Read.{Given, read_found}
+use Rattle.command_words.specs.Refused.{is_refused, has_refused}
+use Rattle.command_words.proofs.Walk.{Which, Word, with_given, given_of, given_once, words_given, run_given, run_from, run_step, idle_step, value_step, word_of, text_word, nothing_given}
+use Rattle.command_words.proofs.Walk.{plain as plain_word, stranger as stranger_word, bare as bare_word, attached as attached_word}
+use Rattle.command_words.proofs.Accepted.{is_fault, IsClean, run_fault_is, run_found, run_starts_idle, run_rows_idle, unknown_fails, no_words_fail}
+use Rattle.command_words.proofs.Run.{holds_nothing}
+use Rattle.command_words.proofs.RunAgrees.{AreClean, idle_agrees}
+use Rattle.command_words.proofs.Words.{clean_from}
+
+-- what the code reads, from the faults and the subcommand that was found
+abbrev pub outcome : Kinds → Option (Text × List Row) → Option Given
+outcome k found = if is_fault k then None else read_found found
+
+refused : (words : List Text) → is_fault (fault_of netd_app words) ≡ true → outcome (fault_of netd_app words) (subcommand_of netd_app words) ≡ None
+refused words fails = ap (λ b. if b then None else read_found (subcommand_of netd_app words)) fails
+
+abbrev Agrees : Text → List Text → Option Given → Type 0
+Agrees name rest given = outcome (fault_of netd_app (name ∷ rest)) (subcommand_of netd_app (name ∷ rest)) ≡ given
+
+run_agrees : (rest : List Text) → AreClean rest → Agrees (codes "run") rest (run_given rest)
+run_agrees rest clean =
+    ap₂ outcome (run_fault_is rest ∙ run_starts_idle rest) (run_found rest ∙ ap (λ (rows : List Row). Some (codes "run", rows)) (run_rows_idle rest))
+    ∙ idle_agrees rest clean [] None nothing_given refl holds_nothing
+
+named : (name w : Text) → bytes_eq name w ≡ true → name ≡ w
+named name w e = (bytes_eq-Decides name w).0 e
+
+any_agrees : (w : Text) (rest : List Text) (b : Bool) → bytes_eq (codes "run") w ≡ b → IsClean w → AreClean rest → Agrees w rest (if b then run_given rest else None)
+any_agrees w rest true e cw cs = subst (λ (v : Text). Agrees v rest (run_given rest)) (named (codes "run") w e) (run_agrees rest cs)
+any_agrees w rest false e cw cs = refused (w ∷ rest) (unknown_fails w rest (long_of w) cw refl e)
+
+-- with no refused word, `clap` and the walk agree
+pub clean_agrees : (words : List Text) → AreClean words → outcome (fault_of netd_app words) (subcommand_of netd_app words) ≡ words_given words
+clean_agrees [] clean = refused [] no_words_fail
+clean_agrees (w ∷ rest) clean = any_agrees w rest _ refl clean.0 clean.1
+
+-- ---- refused words
+
+-- one step of the words after `run`, from what the word is
+abbrev elim_step : Option Which → Given → Text → Word → (Option Which → Given → Option Given) → Option Given
+elim_step None g x w next = idle_step g w next
+elim_step (Some o) g x w next = value_step o g w x next
+
+once_none : (g : Given) (o : Which) (t : Text) (next : Given → Option Given) → ((k : Given) → next k ≡ None) → given_once g o t next ≡ None
+once_none g o t next none = by (is_some (given_of g o))
+  where
+    by : (b : Bool) → (if b then None else next (with_given g o t)) ≡ None
+    by true = refl
+    by false = none (with_given g o t)
+
+step_none : (waiting : Option Which) (g : Given) (x : Text) (w : Word) (next : Option Which → Given → Option Given) → ((o : Option Which) (k : Given) → next o k ≡ None)
+    → elim_step waiting g x w next ≡ None
+step_none None g x plain_word next none = refl
+step_none None g x stranger_word next none = refl
+step_none None g x (bare_word o) next none = none (Some o) g
+step_none None g x (attached_word o t) next none = once_none g o t (next None) (none None)
+step_none (Some o) g x plain_word next none = once_none g o x (next None) (none None)
+step_none (Some o) g x stranger_word next none = refl
+step_none (Some o) g x (bare_word q) next none = refl
+step_none (Some o) g x (attached_word q t) next none = refl
+
+-- nothing is given by words of which one is refused
+run_refused : (ws : List Text) → has_refused ws ≡ true → (waiting : Option Which) (g : Given) → run_from waiting g ws ≡ None
+run_refused [] h waiting g = cc
+run_refused (w ∷ ws) h waiting g = by (is_refused w) refl h (run_refused ws)
+  where
+    step_is : (m : Option Which) → run_step m g w (λ o k. run_from o k ws) ≡ elim_step m g w (word_of w) (λ o k. run_from o k ws)
+    step_is None = refl
+    step_is (Some o) = refl
+
+    stranger_none : (m : Option Which) → elim_step m g w stranger_word (λ o k. run_from o k ws) ≡ None
+    stranger_none None = refl
+    stranger_none (Some o) = refl
+
+    by : (b : Bool) → is_refused w ≡ b → (b || has_refused ws) ≡ true → (has_refused ws ≡ true → (m : Option Which) (k : Given) → run_from m k ws ≡ None) → run_step waiting g w (λ o k. run_from o k ws) ≡ None
+    by true d k ih = step_is waiting ∙ ap (λ (b : Bool). elim_step waiting g w (if b then stranger_word else text_word w) (λ o k. run_from o k ws)) d ∙ stranger_none waiting
+    by false d k ih = step_is waiting ∙ step_none waiting g w (word_of w) (λ o k. run_from o k ws) (ih k)
+
+pub refused_none : (words : List Text) → has_refused words ≡ true → words_given words ≡ None
+refused_none [] e = cc
+refused_none (w ∷ rest) e = by (bytes_eq (codes "run") w) refl
+  where
+    in_rest : (b : Bool) → is_refused w ≡ b → (b || has_refused rest) ≡ true → codes "run" ≡ w → has_refused rest ≡ true
+    in_rest true d h same = let bad : false ≡ true = ap is_refused same ∙ d in cc
+    in_rest false d h same = h
+
+    by : (b : Bool) → bytes_eq (codes "run") w ≡ b → (if b then run_given rest else None) ≡ None
+    by true same = run_refused rest (in_rest (is_refused w) refl e (named (codes "run") w same)) None nothing_given
+    by false same = refl
+
+are_clean : (words : List Text) → has_refused words ≡ false → AreClean words
+are_clean [] e = tt
+are_clean (w ∷ rest) e = by (is_refused w) refl e (are_clean rest)
+  where
+    by : (b : Bool) → is_refused w ≡ b → (b || has_refused rest) ≡ false → (has_refused rest ≡ false → AreClean rest) → AreClean (w ∷ rest)
+    by true t h ih = cc
+    by false t h ih = let clean = clean_from w t in ((clean.0, clean.1, t), ih h)
+
+-- ---- the two ends of the parse
+
+-- no fault of the words' command means that the walk gives what the code reads
+pub taken_given : (app : App) (words : List Text) → app ≡ netd_app → has_refused words ≡ false → fault_of app words ≡ [] → read_found (subcommand_of app words) ≡ words_given words
+taken_given app words same clean fits =
+    ap (λ (a : App). read_found (subcommand_of a words)) same
+    ∙ sym (ap (λ (l : Kinds). outcome l (subcommand_of netd_app words)) (ap (λ (a : App). fault_of a words) (sym same) ∙ fits))
+    ∙ clean_agrees words (are_clean words clean)
+
+-- a fault means that it gives nothing
+pub refused_given : (app : App) (words : List Text) (k : ErrorKind) → app ≡ netd_app → has_refused words ≡ false → IsAmong k (fault_of app words) → words_given words ≡ None
+refused_given app words k same clean among =
+    sym (clean_agrees words (are_clean words clean)) ∙ refused words (is_some_fault (fault_of netd_app words) (subst (IsAmong k) (ap (λ (a : App). fault_of a words) same) among))
+  where
+    is_some_fault : (ks : Kinds) → IsAmong k ks → is_fault ks ≡ true
+    is_some_fault [] h = absurd h
+    is_some_fault (x ∷ xs) h = refl

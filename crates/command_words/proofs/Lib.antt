@@ -1,0 +1,10 @@
+pub mod Walk
+pub mod Accepted
+pub mod Words
+pub mod Run
+pub mod RunAgrees
+pub mod Agrees
+pub mod Turns
+pub mod Whole
+pub mod Lists
+pub mod Reading

@@ -1,0 +1,79 @@
+-- The forms, and what the walk over the words gives.
+use Rattle.std.proofs.Common.{◌≡◌, ◌∙◌, ◌++◌, ℕ, Bool, true, false, List, [], ◌∷◌, Option, Some, None, codes, refl, sym, ap, subst, if◌then◌else◌, inl, inr}
+use Rattle.std.proofs.lemmas.Slice.Eq.{bytes_eq-Decides}
+use Rattle.std.specs.Str.{bytes_eq}
+use Rattle.command_words.specs.Forms.{Text, IsRun, IsForm, FormView, run, MayGiveOption}
+use Rattle.command_words.specs.Read.{Given, Says, SaysSome, IsListOrNone}
+use Rattle.command_words.proofs.Accepted.{name_of}
+use Rattle.command_words.proofs.Walk.{Which, refuse, broken, words_given, run_given}
+use Rattle.command_words.proofs.Turns.{MayGiveText, AreGiven, IsPlainOrNone, walk_gives, given_walks}
+use Rattle.command_words.proofs.Lists.{list_plain, list_one}
+
+option_from_text : (o : Which) (ws : List Text) (x : Option Text) (ns : List ℕ) → MayGiveText o ws x → IsListOrNone x ns → MayGiveOption (name_of o) ws ns
+option_from_text o ws None ns a h = inr (a, h)
+option_from_text o ws (Some t) ns a h = inl (t, h, a)
+
+text_from_option : (o : Which) (ws : List Text) (ns : List ℕ) → MayGiveOption (name_of o) ws ns → (x : Option Text) × MayGiveText o ws x × IsListOrNone x ns
+text_from_option o ws ns (inl g) = (Some g.0, g.2, g.1)
+text_from_option o ws ns (inr n) = (None, n.0, n.1)
+
+plain_or_none : (x : Option Text) (ns : List ℕ) → IsListOrNone x ns → IsPlainOrNone x
+plain_or_none None ns h = tt
+plain_or_none (Some t) ns h = list_plain t ns h
+
+run_from_given : (w : Text) (rest : List Text) (g : Given) (refuses breaks : List ℕ) → codes "run" ≡ w → AreGiven rest g → Says g (run refuses breaks) → IsRun (w ∷ rest) refuses breaks
+run_from_given w rest g refuses breaks same given says = record {
+  first = given.first;
+  second = given.second;
+  whole = ap (λ (v : Text). v ∷ rest) (sym same) ∙ ap (λ (l : List Text). codes "run" ∷ l) given.whole;
+  options = elim given.options [
+    | inl o ↦ inl (option_from_text refuse given.first g.refuses refuses o.0 says.0, option_from_text broken given.second g.breaks breaks o.1 says.1)
+    | inr o ↦ inr (option_from_text broken given.first g.breaks breaks o.0 says.1, option_from_text refuse given.second g.refuses refuses o.1 says.0)
+  ];
+}
+
+-- what the walk gives says a form of the words
+pub form_from_given : (words : List Text) (form : FormView) → SaysSome (words_given words) form → IsForm words form
+form_from_given [] form h = absurd h
+form_from_given (w ∷ rest) (run refuses breaks) h = by (bytes_eq (codes "run") w) refl h
+  where
+    in_run : (o : Option Given) → run_given rest ≡ o → codes "run" ≡ w → SaysSome o (run refuses breaks) → IsRun (w ∷ rest) refuses breaks
+    in_run None e same k = absurd k
+    in_run (Some g) e same k = run_from_given w rest g refuses breaks same (walk_gives rest g e) k
+
+    by : (b : Bool) → bytes_eq (codes "run") w ≡ b → SaysSome (if b then run_given rest else None) (run refuses breaks) → IsRun (w ∷ rest) refuses breaks
+    by true e k = in_run (run_given rest) refl ((bytes_eq-Decides (codes "run") w).0 e) k
+    by false e k = absurd k
+
+given_from_parts : (words first second : List Text) (refuses breaks : List ℕ) (x y : Option Text) → words ≡ codes "run" ∷ (first ++ second) → AreGiven (first ++ second) (record { refuses = x; breaks = y }) → IsListOrNone x refuses → IsListOrNone y breaks
+    → SaysSome (words_given words) (run refuses breaks)
+given_from_parts words first second refuses breaks x y whole given one two =
+    let walks : words_given words ≡ Some (record { refuses = x; breaks = y }) = ap words_given whole ∙ given_walks (first ++ second) x y given (plain_or_none x refuses one) (plain_or_none y breaks two) in
+    subst (λ (o : Option Given). SaysSome o (run refuses breaks)) (sym walks) (one, two)
+
+-- every form of the words is said by what the walk gives
+pub given_from_form : (words : List Text) (form : FormView) → IsForm words form → SaysSome (words_given words) form
+given_from_form words (run refuses breaks) h = elim h.options [
+  | inl o ↦
+      let x = text_from_option refuse h.first refuses o.0 in
+      let y = text_from_option broken h.second breaks o.1 in
+      given_from_parts words h.first h.second refuses breaks x.0 y.0 h.whole (record { first = h.first; second = h.second; whole = refl; options = inl (x.1, y.1) }) x.2 y.2
+  | inr o ↦
+      let y = text_from_option broken h.first breaks o.0 in
+      let x = text_from_option refuse h.second refuses o.1 in
+      given_from_parts words h.first h.second refuses breaks x.0 y.0 h.whole (record { first = h.first; second = h.second; whole = refl; options = inr (y.1, x.1) }) x.2 y.2
+]
+
+-- ---- no words have two forms
+
+list_or_none_one : (x : Option Text) (ns ms : List ℕ) → IsListOrNone x ns → IsListOrNone x ms → ns ≡ ms
+list_or_none_one None ns ms a b = a ∙ sym b
+list_or_none_one (Some t) ns ms a b = list_one t ns ms a b
+
+says_one : (o : Option Given) (form other : FormView) → SaysSome o form → SaysSome o other → form ≡ other
+says_one None form other a b = absurd a
+says_one (Some g) (run r b) (run r' b') a c =
+    ap (λ (l : List ℕ). run l b) (list_or_none_one g.refuses r r' a.0 c.0) ∙ ap (λ (l : List ℕ). run r' l) (list_or_none_one g.breaks b b' a.1 c.1)
+
+pub form_one : (words : List Text) (form other : FormView) → IsForm words form → IsForm words other → form ≡ other
+form_one words form other a b = says_one (words_given words) form other (given_from_form words form a) (given_from_form words other b)

@@ -1,0 +1,57 @@
+use Rattle.std.proofs.Common.{◌≡◌, ◌∙◌, ap, sym, subst, map, List, Option, None, refl, string_bytes, inl, inr}
+use Rattle.std.proofs.lemmas.Result.{IfOk-weaker}
+use Rattle.clap.specs.Simple.{is_simple}
+use Rattle.clap.specs.Faults.{is_simple_and_free}
+use Rattle.clap.specs.Values.{kind_of}
+use Rattle.clap.proofs.WalkLemmas.{list_any-map}
+use Rattle.command_words.specs.Forms.{Text, FormView, IsForm}
+use Rattle.command_words.specs.Refused.{is_refused}
+use Rattle.command_words.specs.Read.{Given, read_found, SaysSome}
+use Rattle.command_words.specs.View.{view_of}
+use Rattle.command_words.proofs.Accepted.{is_usable}
+use Rattle.command_words.proofs.Agrees.{refused_none, refused_given, taken_given}
+use Rattle.command_words.proofs.Walk.{words_given}
+use Rattle.command_words.proofs.Whole.{form_from_given, given_from_form}
+use Rattle.command_words.proofs.read.read_words.Goals as goal
+
+-- where the walk gives nothing, the words have no form
+no_form : (words : List Text) → words_given words ≡ None → (form : FormView) → IsForm words form → ⊥
+no_form words none form has = subst (λ (o : Option Given). SaysSome o form) none (given_from_form words form has)
+
+pub returns-then-has_refused-clause-no_form : goal.returns-then-has_refused-clause-no_form
+returns-then-has_refused-clause-no_form c = λ _ form has.
+    let any = sym (list_any-map is_refused string_bytes c.args.words.now) ∙ sym c.has_refused.ensures ∙ c.if-has_refused.true in
+    no_form (map string_bytes c.args.words.now) (refused_none (map string_bytes c.args.words.now) any) form has
+
+pub returns-in-Ok-try_get_matches_from-clause-ok : goal.returns-in-Ok-try_get_matches_from-clause-ok
+returns-in-Ok-try_get_matches_from-clause-ok c =
+    let words : List Text = map string_bytes c.args.words.now in
+    let clean = sym (list_any-map is_refused string_bytes c.args.words.now) ∙ sym c.has_refused.ensures ∙ c.if-has_refused.false in
+    let app = c.in-Ok.ensures in
+    let parsed = c.in-Ok-try_get_matches_from.ensures in
+    let fits = parsed.kinds (ap is_simple_and_free app ∙ is_usable) in
+    let reads = ap read_found (parsed.matches (ap is_simple app ∙ refl)).1 ∙ taken_given _ words app clean fits in
+    IfOk-weaker c.form_in.result _ _ (λ form says. form_from_given words (view_of form) (subst (λ (o : Option Given). SaysSome o (view_of form)) reads says)) c.form_in.ensures.ok
+
+pub returns-in-Ok-try_get_matches_from-clause-no_form : goal.returns-in-Ok-try_get_matches_from-clause-no_form
+returns-in-Ok-try_get_matches_from-clause-no_form c = λ fault form has.
+    let words : List Text = map string_bytes c.args.words.now in
+    let clean = sym (list_any-map is_refused string_bytes c.args.words.now) ∙ sym c.has_refused.ensures ∙ c.if-has_refused.false in
+    let app = c.in-Ok.ensures in
+    let parsed = c.in-Ok-try_get_matches_from.ensures in
+    let fits = parsed.kinds (ap is_simple_and_free app ∙ is_usable) in
+    let reads = ap read_found (parsed.matches (ap is_simple app ∙ refl)).1 ∙ taken_given _ words app clean fits in
+    c.form_in.ensures.no_form fault form (subst (λ (o : Option Given). SaysSome o form) (sym reads) (given_from_form words form has))
+
+pub returns : goal.returns
+returns c = record {
+  ok = tt;
+  no_form = λ _ form has.
+      let words : List Text = map string_bytes c.args.words.now in
+      let clean = sym (list_any-map is_refused string_bytes c.args.words.now) ∙ sym c.has_refused.ensures ∙ c.if-has_refused.false in
+      let app = c.in-Ok.ensures in
+      elim (c.in-Err.ensures.kinds (ap is_simple_and_free app ∙ is_usable)) [
+        | inl memory ↦ absurd (c.in_default-kind.not-OutOfMemory (c.kind.ensures ∙ memory))
+        | inr among ↦ no_form words (refused_given _ words (kind_of c.in-Err.error) app clean among) form has
+      ];
+}

@@ -1,0 +1,26 @@
+-- The command that `clap` is given.
+use Rattle.std.specs.Prelude.{true, Some, codes}
+use Rattle.clap.specs.Walk.{Rule}
+use Rattle.clap.specs.Simple.{App, Shape, new_app, new_rule, with_rule, with_subcommand, on_top}
+
+abbrev pub refuse_rule : Rule
+refuse_rule = record (new_rule (codes "refuse")) { long = Some (codes "refuse") }
+
+abbrev pub break_rule : Rule
+break_rule = record (new_rule (codes "break")) { long = Some (codes "break") }
+
+abbrev pub run_app : App
+run_app = with_rule (with_rule (new_app (codes "run")) refuse_rule) break_rule
+
+abbrev pub plain_shape : Shape → Shape
+plain_shape s = record s {
+  no_binary_name = true;
+  disable_help_flag = true;
+  disable_version_flag = true;
+  disable_help_subcommand = true;
+  subcommand_required = true;
+}
+
+-- the whole command
+abbrev pub netd_app : App
+netd_app = with_subcommand (on_top plain_shape (new_app (codes "netd_run"))) run_app.top

@@ -1,0 +1,30 @@
+ghost use Rattle.std.specs.Prelude.{◌≡◌, false, IfOk};
+ghost use Rattle.clap.specs.Simple.{app_of};
+ghost use Rattle.clap.specs.declared.builder.command.Command.TheViews.{out-Command as fields_of};
+ghost use Rattle.command_words.specs.App.{netd_app, run_app};
+
+use clap::{Arg, Command};
+use std::alloc::{AllocError, Global};
+
+fn run_command<'a>(alloc: Global) -> Result<Command<'a>, AllocError>
+    ensures app { IfOk result (λ command. app_of command ≡ run_app) }
+    ensures local { IfOk result (λ command. (fields_of command).has_globals ≡ false) }
+{
+    let refuse = Arg::new(alloc, "refuse").long("refuse");
+    let breaks = Arg::new(alloc, "break").long("break");
+    Command::new(alloc, "run").arg(refuse)?.arg(breaks)
+}
+
+/// The command line, with a subcommand for each form.
+pub fn netd_command<'a>(alloc: Global) -> Result<Command<'a>, AllocError>
+    ensures { IfOk result (λ command. app_of command ≡ netd_app) }
+{
+    let run = run_command(alloc)?;
+    let plain = Command::new(alloc, "netd_run")
+        .no_binary_name(true)
+        .disable_help_flag(true)
+        .disable_version_flag(true)
+        .disable_help_subcommand(true)
+        .subcommand_required(true);
+    plain.subcommand(run)
+}

@@ -1,0 +1,53 @@
+ghost use Rattle.std.specs.Prelude.{◌≡◌, ℕ, List, Err, IfOk};
+ghost use Rattle.std.specs.Option.{option_copied};
+ghost use Rattle.clap.specs.Matches.{found_of};
+ghost use Rattle.clap.specs.Walk.{rows_of};
+ghost use Rattle.clap.specs.Simple.{subcommand_rows_of};
+ghost use Rattle.command_words.specs.Forms.{FormView};
+ghost use Rattle.command_words.specs.Read.{Says, SaysSome, given_in, read_found};
+ghost use Rattle.command_words.specs.View.{view_of};
+
+use crate::fault::WordsFault;
+use crate::form::Form;
+use crate::list::read_list_or_none;
+use clap::ArgMatches;
+use std::alloc::Global;
+
+fn run_by(alloc: Global, refuse: Option<&str>, breaks: Option<&str>) -> Result<Form, WordsFault>
+    ensures ok { IfOk result (λ form. Says
+        (record { refuses = option_copied refuse.entry; breaks = option_copied breaks.entry })
+        (view_of form)) }
+    ensures no_form { result ≡ Err WordsFault.NoForm → (form : FormView) → Says
+        (record { refuses = option_copied refuse.entry; breaks = option_copied breaks.entry })
+        form → ⊥ }
+{
+    let refuse = read_list_or_none(alloc, refuse)?;
+    let breaks = read_list_or_none(alloc, breaks)?;
+    Ok(Form::Run { refuse, breaks })
+}
+
+fn run_in(alloc: Global, inner: &ArgMatches) -> Result<Form, WordsFault>
+    ensures ok { IfOk result (λ form. Says (given_in (rows_of (found_of inner.now))) (view_of form)) }
+    ensures no_form { result ≡ Err WordsFault.NoForm →
+        (form : FormView) → Says (given_in (rows_of (found_of inner.now))) form → ⊥ }
+{
+    run_by(alloc, inner.get_str("refuse"), inner.get_str("break"))
+}
+
+/// The form that the matches say.
+pub fn form_in(alloc: Global, matches: &ArgMatches) -> Result<Form, WordsFault>
+    ensures ok { IfOk result (λ form. SaysSome (read_found (subcommand_rows_of matches.now)) (view_of form)) }
+    ensures no_form { result ≡ Err WordsFault.NoForm →
+        (form : FormView) → SaysSome (read_found (subcommand_rows_of matches.now)) form → ⊥ }
+{
+    match matches.subcommand() {
+        None => Err(WordsFault::NoForm),
+        Some((name, inner)) => {
+            if name == "run" {
+                run_in(alloc, inner)
+            } else {
+                Err(WordsFault::NoForm)
+            }
+        }
+    }
+}

@@ -1,0 +1,8 @@
+ghost use Rattle.std.specs.Prelude.{◌≡◌, [], ◌∷◌, ◌++◌, codes};
+
+/// What is printed where the words have no form.
+pub fn usage() -> &'static str
+    ensures { result.now ≡ codes "usage: netd_run run [--refuse LIST] [--break LIST]" ++ 10 ∷ [] }
+{
+    "usage: netd_run run [--refuse LIST] [--break LIST]\n"
+}
