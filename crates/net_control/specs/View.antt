@@ -3,7 +3,7 @@ use Rattle.std.specs.Prelude.{◌≡◌, ℕ, Option, None}
 use Rattle.kernel_model.specs.Stands.{Stands}
 use Rattle.kernel_model.specs.View.{KernelView, state_of}
 use Rattle.policy_state.specs.Table.{rule_table, route_list}
-use Rattle.policy_state.specs.View.{StateView}
+use Rattle.policy_state.specs.View.{StateView, IsGood}
 
 pub record ControllerView : Type 0 where
   pub state : StateView
@@ -17,6 +17,7 @@ running state = record { state = state; halted = None }
 abbrev pub StandsFor : KernelView → StateView → Type 0
 StandsFor kernel state = Stands (state_of kernel) (rule_table state) (route_list state)
 
--- unless the controller has halted, the kernel stands for its state
-abbrev pub IsKept : ControllerView → KernelView → Type 0
-IsKept controller kernel = controller.halted ≡ None → StandsFor kernel controller.state
+-- the state is good, and unless the controller has halted the kernel stands for it
+pub record IsKept (controller : ControllerView) (kernel : KernelView) : Type 0 where
+  pub good : IsGood controller.state
+  pub stands : controller.halted ≡ None → StandsFor kernel controller.state

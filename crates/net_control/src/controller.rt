@@ -5,9 +5,9 @@ ghost use Rattle.policy_state.specs.View.{start};
 
 use kernel_model::{Kernel, Plan};
 use net_names::Code;
-use plan_exec::{Carried, carry};
+use plan_exec::{Carried, carry, switch_may_be_carried};
 use policy_state::{Command, State, StepFault};
-use rule_compile::{plan, start_plan};
+use rule_compile::{plan, plan_ends, start_plan};
 use std::alloc::{AllocError, Global};
 use std::marker::Model;
 use thiserror::Error;
@@ -87,11 +87,17 @@ impl Controller {
         ensures answer { IsStarted result (K.seen kernel.old) (K.seen kernel.new) }
         ensures kept { IfOk result (λ controller. IsKept controller (K.seen kernel.new)) }
     {
-        let state = State::start(alloc).map_err(StartFault::Memory)?;
-        let plan = start_plan(alloc).map_err(StartFault::Memory)?;
-        kernel
-            .reserve(START_REQUESTS)
-            .map_err(StartFault::Memory)?;
+        let state = match State::start(alloc) {
+            Ok(state) => state,
+            Err(fault) => return Err(StartFault::Memory(fault)),
+        };
+        let plan = match start_plan(alloc) {
+            Ok(plan) => plan,
+            Err(fault) => return Err(StartFault::Memory(fault)),
+        };
+        if let Err(fault) = kernel.reserve(START_REQUESTS) {
+            return Err(StartFault::Memory(fault));
+        }
         match carry(&plan, kernel) {
             Carried::Done => Ok(Controller {
                 alloc,
@@ -117,16 +123,13 @@ impl Controller {
         self.halted
     }
 
-    /// Brings the kernel to the state that the command gives. The new state, the plan and the kernel's room are made
-    /// first, so that nothing can want memory from the first request on.
-    pub fn apply<K: Kernel>(&mut self, kernel: &mut K, command: &Command) -> Answer
-        requires { IsKept self.old (K.seen kernel.old) }
+    // Takes a command with a controller that has not halted.
+    fn take<K: Kernel>(&mut self, kernel: &mut K, command: &Command) -> Answer
+        requires kept { IsKept self.old (K.seen kernel.old) }
+        requires runs { self.old.halted ≡ None }
         ensures answer { IsAnswered result command.now self.old self.new (K.seen kernel.old) (K.seen kernel.new) }
         ensures kept { IsKept self.new (K.seen kernel.new) }
     {
-        if let Some(request) = self.halted {
-            return Answer::Halted { request };
-        }
         let new = match self.state.step(command) {
             Ok(new) => new,
             Err(StepFault::Refused { code }) => return Answer::Refused { code },
@@ -141,9 +144,11 @@ impl Controller {
                 code: Code::NoSpace,
             };
         };
-        if kernel.reserve(most).is_err() {
+        if let Err(_) = kernel.reserve(most) {
             return Answer::NoMemory;
         }
+        switch_may_be_carried();
+        plan_ends();
         match carry(&plan, kernel) {
             Carried::Done => {
                 self.state = new;
@@ -154,6 +159,19 @@ impl Controller {
                 self.halted = Some(request);
                 Answer::Halted { request }
             }
+        }
+    }
+
+    /// Brings the kernel to the state that the command gives. The new state, the plan and the kernel's room are made
+    /// first, so that nothing can want memory from the first request on. A controller that has halted asks nothing.
+    pub fn apply<K: Kernel>(&mut self, kernel: &mut K, command: &Command) -> Answer
+        requires { IsKept self.old (K.seen kernel.old) }
+        ensures answer { IsAnswered result command.now self.old self.new (K.seen kernel.old) (K.seen kernel.new) }
+        ensures kept { IsKept self.new (K.seen kernel.new) }
+    {
+        match self.halted {
+            Some(request) => Answer::Halted { request },
+            None => self.take(kernel, command),
         }
     }
 }

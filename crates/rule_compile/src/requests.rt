@@ -11,7 +11,7 @@ use rule_match::Rule;
 use std::alloc::{AllocError, Global};
 
 /// Each rule for IPv4 and then for IPv6.
-fn twins(alloc: Global, rules: &[Rule]) -> Result<Vec<Request>, AllocError>
+pub(crate) fn twins(alloc: Global, rules: &[Rule]) -> Result<Vec<Request>, AllocError>
     ensures { IfOk result (λ requests. requests.items ≡ twins rules.now) }
 {
     let mut requests = Vec::new(alloc);

@@ -1,16 +1,16 @@
-use Rattle.std.proofs.Common.{rules, ◌≡◌, ◌≤◌, ◌<◌, ◌+◌, ◌*◌, [], OnOk, IfOk, MatchOption, length, ℕ, ◌-◌, ◌/◌, ◌%◌, Bool, true, false, nat_eq, nat_lt, List, ◌∷◌, ◌++◌, slice_index_or, slice_set, bit_and, bit_or, Fits, w8, w32, w64, Bor, MutBor}
-use Rattle.net_control.specs.Limit.{journal_limit}
-use Rattle.kernel_model.specs.View.{grown}
-use Rattle.policy_state.specs.View.{start}
-use Rattle.net_control.specs.Started.{IsStarted}
-use Rattle.net_control.specs.Applied.{IsAnswered}
+use Rattle.std.proofs.Common.{sym, subst, None}
+use Rattle.policy_state.specs.View.{StateView}
 use Rattle.net_control.specs.View.{IsKept}
+use Rattle.net_control.proofs.Carrying.{started_halted, start_kept}
 use Rattle.net_control.proofs.controller.Controller.start.Goals as goal
 
--- src/controller.rt:85:5
 pub returns-in-Done-clause-kept : goal.returns-in-Done-clause-kept
-returns-in-Done-clause-kept g c = ?
+returns-in-Done-clause-kept g c =
+    subst (λ (s : StateView). IsKept (record { state = s; halted = None }) (g.K.Kernel.seen c.carry.new.kernel)) (sym c.in-Ok.ensures)
+    (start_kept c.in-Ok-start_plan.plan (g.K.Kernel.seen c.args.kernel.now) (g.K.Kernel.seen c.reserve.new.self) (g.K.Kernel.seen c.carry.new.kernel)
+    c.requires c.in-Ok-start_plan.ensures c.reserve.ensures.seen c.in-Done.ensures.carries)
 
--- src/controller.rt:85:5
 pub returns-in-Halted-clause-answer : goal.returns-in-Halted-clause-answer
-returns-in-Halted-clause-answer g c = ?
+returns-in-Halted-clause-answer g c =
+    started_halted c.in-Ok-start_plan.plan (g.K.Kernel.seen c.args.kernel.now) (g.K.Kernel.seen c.reserve.new.self) (g.K.Kernel.seen c.carry.new.kernel) c.in-Halted.request
+    c.in-Ok-start_plan.ensures c.reserve.ensures.seen c.in-Halted.ensures.carries
