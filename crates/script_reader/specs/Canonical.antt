@@ -30,3 +30,11 @@ piece_text piece = value_text piece.kind piece.value
 -- the words with one space between each two; nothing for a line that says nothing
 abbrev pub canonical : Line → List ℕ
 canonical line = join_with_byte space (map piece_text (pieces_of line))
+
+abbrev pub line_feed : ℕ
+line_feed = 10
+
+-- the same with a line feed; nothing for a line that says nothing
+abbrev pub printed : Line → List ℕ
+printed line.Blank = []
+printed line = canonical line ++ line_feed ∷ []

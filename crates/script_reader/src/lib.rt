@@ -5,6 +5,7 @@ mod control;
 mod fault;
 mod form;
 mod line;
+mod print;
 mod read;
 mod show;
 mod trace;
@@ -13,4 +14,5 @@ mod words;
 
 pub use fault::LineFault;
 pub use line::{Line, ShowLine, TraceLine};
+pub use print::{print_line, write_mark, write_range, write_uid};
 pub use read::read_line;
