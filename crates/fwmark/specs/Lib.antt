@@ -1,2 +1,3 @@
 pub mod Permission
 pub mod Mark
+pub mod Selection

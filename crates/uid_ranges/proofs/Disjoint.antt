@@ -1,19 +1,14 @@
 -- Lists of disjoint ranges, joined and filtered.
 use Rattle.std.proofs.Common.{◌≡◌, ◌++◌, ◌||◌, Bool, true, false, cond, List, [], ◌∷◌, filter, refl}
 use Rattle.std.specs.List.{list_any}
+use Rattle.std.proofs.lemmas.List.Folds.{list_any-append}
 use Rattle.uid_ranges.specs.declared.range.UidRange.{UidRange}
 use Rattle.uid_ranges.specs.Range.{meets}
 use Rattle.uid_ranges.specs.Ranges.{meets_any, self_meets, lists_meet, AreDisjoint}
 
-pub neither : (a b : Bool) → (a || b) ≡ false → (a ≡ false) × (b ≡ false)
+neither : (a b : Bool) → (a || b) ≡ false → (a ≡ false) × (b ≡ false)
 neither true b h = cc
 neither false b h = (refl, h)
-
-list_any-append : (p : UidRange → Bool) (xs ys : List UidRange) → list_any p xs ≡ false → list_any p ys ≡ false → list_any p (xs ++ ys) ≡ false
-list_any-append p [] ys hx hy = hy
-list_any-append p (x ∷ xs) ys hx hy =
-    let two = neither (p x) (list_any p xs) hx in
-    rw two.0 (list_any-append p xs ys two.1 hy)
 
 -- two disjoint lists that don't meet are disjoint when joined
 pub AreDisjoint-append : (xs ys : List UidRange) → AreDisjoint xs → AreDisjoint ys → lists_meet xs ys ≡ false → AreDisjoint (xs ++ ys)
@@ -21,7 +16,8 @@ AreDisjoint-append [] ys hx hy apart = hy
 AreDisjoint-append (x ∷ xs) ys hx hy apart =
     let self = neither (meets_any x xs) (self_meets xs) hx in
     let other = neither (meets_any x ys) (lists_meet xs ys) apart in
-    rw (list_any-append (meets x) xs ys self.0 other.0) (AreDisjoint-append xs ys self.1 hy other.1)
+    let joined : list_any (meets x) (xs ++ ys) ≡ false = rw (list_any-append (meets x) xs ys, self.0) other.0 in
+    rw joined (AreDisjoint-append xs ys self.1 hy other.1)
 
 list_any-filter : (p q : UidRange → Bool) (xs : List UidRange) → list_any p xs ≡ false → list_any p (filter q xs) ≡ false
 list_any-filter p q [] h = refl

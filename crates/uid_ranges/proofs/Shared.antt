@@ -1,10 +1,11 @@
 -- Ranges and lists of ranges meet exactly where they share a UID.
-use Rattle.std.proofs.Common.{◌≡◌, ◌||◌, ◌&&◌, ◌<◌, ◌≤◌, ◌⊎◌, ℕ, zero, suc, Bool, true, false, cond, List, [], ◌∷◌, Some, refl, inl, inr, arith, nat_le, slice_get, IsSomeAnd}
+use Rattle.std.proofs.Common.{◌≡◌, ◌||◌, ◌&&◌, ◌<◌, ◌≤◌, ◌⊎◌, ℕ, zero, suc, Bool, true, false, cond, List, [], ◌∷◌, Some, refl, sym, inl, inr, arith, length, nat_le, slice_get, IsSomeAnd}
 use Rattle.std.proofs.lemmas.Bool.Decides.{nat_tests}
-use Rattle.std.specs.List.{list_any}
+use Rattle.std.proofs.lemmas.List.Folds.{Any-from_list_any, list_any-from_Any}
+use Rattle.std.proofs.lemmas.Option.{slice_get_read}
 use Rattle.uid_ranges.specs.declared.range.UidRange.{UidRange}
 use Rattle.uid_ranges.specs.Range.{holds, meets}
-use Rattle.uid_ranges.specs.Ranges.{meets_any, self_meets, TwoShareUid}
+use Rattle.uid_ranges.specs.Ranges.{meets_any, lists_meet, self_meets, ListsShareUid, TwoShareUid}
 
 -- the later of the two first UIDs is in both
 pub shared_of-meets : (one other : UidRange) → meets one other ≡ true → (uid : ℕ) × (holds one uid ≡ true) × (holds other uid ≡ true)
@@ -22,27 +23,20 @@ either : (a b : Bool) → (a || b) ≡ true → (a ≡ true) ⊎ (b ≡ true)
 either true b h = inl refl
 either false b h = inr h
 
--- a place whose element passes the test
-found : (p : UidRange → Bool) (xs : List UidRange) → list_any p xs ≡ true → (k : ℕ) × (x : UidRange) × (slice_get xs k ≡ Some x) × (p x ≡ true)
-found p [] h = cc
-found p (x ∷ xs) h = elim (either (p x) (list_any p xs) h) [
-  | inl here ↦ (0, x, refl, here)
-  | inr there ↦ let it = found p xs there in (suc it.0, it.1, it.2, it.3)
-]
-
 pub shared_of-self_meets : (xs : List UidRange) → self_meets xs ≡ true → TwoShareUid xs
 shared_of-self_meets [] h = cc
 shared_of-self_meets (x ∷ xs) h = elim (either (meets_any x xs) (self_meets xs) h) [
   | inl here ↦
-      let it = found (meets x) xs here in
-      let both = shared_of-meets x it.1 it.3 in
+      let it = Any-from_list_any (meets x) xs here in
+      let at : slice_get xs it.0 ≡ Some it.1 = slice_get_read xs (length xs) it.0 it.1 refl it.2 (sym it.3) in
+      let both = shared_of-meets x it.1 it.4 in
       record {
         earlier = 0;
         later = suc it.0;
         uid = both.0;
         in_order = omega arith;
         holds_earlier = both.1;
-        holds_later = rw it.2 both.2;
+        holds_later = rw at both.2;
       }
   | inr there ↦
       let rest = shared_of-self_meets xs there in
@@ -78,3 +72,22 @@ self_meets_at (x ∷ xs) (suc i) (suc j) uid h here there =
     last : (b : Bool) → (b || true) ≡ true
     last true = refl
     last false = refl
+
+pub shared_of-lists_meet : (xs ys : List UidRange) → lists_meet xs ys ≡ true → ListsShareUid xs ys
+shared_of-lists_meet xs ys h =
+    let one = Any-from_list_any (λ x. meets_any x ys) xs h in
+    let other = Any-from_list_any (meets one.1) ys one.4 in
+    let both = shared_of-meets one.1 other.1 other.4 in
+    record {
+      uid = both.0;
+      holds_one = list_any-from_Any (λ x. holds x both.0) xs (one.0, one.1, one.2, one.3, both.1);
+      holds_other = list_any-from_Any (λ x. holds x both.0) ys (other.0, other.1, other.2, other.3, both.2);
+    }
+
+pub lists_meet_from_shared : (xs ys : List UidRange) → ListsShareUid xs ys → lists_meet xs ys ≡ true
+lists_meet_from_shared xs ys h =
+    let one = Any-from_list_any (λ x. holds x h.uid) xs h.holds_one in
+    let other = Any-from_list_any (λ x. holds x h.uid) ys h.holds_other in
+    let meet = meets_from_shared one.1 other.1 h.uid one.4 other.4 in
+    let meet_any = list_any-from_Any (meets one.1) ys (other.0, other.1, other.2, other.3, meet) in
+    list_any-from_Any (λ x. meets_any x ys) xs (one.0, one.1, one.2, one.3, meet_any)

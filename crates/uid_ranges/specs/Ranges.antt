@@ -29,6 +29,12 @@ self_meets (range ∷ ranges) = meets_any range ranges || self_meets ranges
 abbrev pub AreDisjoint : List UidRange → Type 0
 AreDisjoint ranges = self_meets ranges ≡ false
 
+-- both lists hold one UID
+pub record ListsShareUid (ranges others : List UidRange) : Type 0 where
+  pub uid : ℕ
+  pub holds_one : IsTrue (any_holds ranges uid)
+  pub holds_other : IsTrue (any_holds others uid)
+
 -- two places of the list hold one UID
 pub record TwoShareUid (ranges : List UidRange) : Type 0 where
   pub earlier : ℕ

@@ -1,5 +1,5 @@
 ghost use Rattle.std.specs.Prelude.{◌≡◌, ◌++◌, ◌↔◌, false, [], length, slice_get, Contains, IsTrue, IfOk};
-ghost use Rattle.uid_ranges.specs.Ranges.{any_holds, has, meets_any, lists_meet, self_meets, without, AreDisjoint, TwoShareUid};
+ghost use Rattle.uid_ranges.specs.Ranges.{any_holds, has, meets_any, lists_meet, self_meets, without, AreDisjoint, ListsShareUid, TwoShareUid};
 
 use crate::range::{Uid, UidRange};
 use std::alloc::{AllocError, Global};
@@ -15,6 +15,12 @@ fn is_among(range: &UidRange, list: &[UidRange]) -> bool
     ensures { result ≡ has list.now range.now }
 {
     list.iter().any(|other| range.is_same(other))
+}
+
+fn lists_meet(ranges: &[UidRange], others: &[UidRange]) -> bool
+    ensures { result ≡ lists_meet ranges.now others.now }
+{
+    ranges.iter().any(|range| meets_any(range, others))
 }
 
 /// Whether two places of the list share a UID.
@@ -100,9 +106,10 @@ impl RangeList {
 
     /// Whether a range of the list meets one of these.
     pub fn meets(&self, list: &[UidRange]) -> bool
-        ensures { result ≡ lists_meet self.now list.now }
+        ensures word { result ≡ lists_meet self.now list.now }
+        ensures shared { IsTrue result ↔ ListsShareUid self.now list.now }
     {
-        self.ranges.iter().any(|range| meets_any(range, list))
+        lists_meet(&self.ranges, list)
     }
 
     /// The list with these behind it.
@@ -129,5 +136,39 @@ impl RangeList {
             .filter(|range| !is_among(range, gone))
             .collect(alloc)?;
         Ok(RangeList { ranges })
+    }
+}
+
+#[cfg(test)]
+mod tests {
+    use super::*;
+    use std::test::Fail;
+
+    fn range(first: u32, last: u32) -> Option<UidRange> {
+        UidRange::new(Uid::new(first)?, Uid::new(last)?)
+    }
+
+    #[test]
+    fn puts_and_takes(rt: HostRuntime) -> Result<(), Fail> {
+        let apps = range(10000, 19999).ok_or("apps")?;
+        let one = range(20000, 20000).ok_or("one")?;
+        let most = range(20001, 4294967294).ok_or("most")?;
+        let none = RangeList::empty(rt.alloc());
+        let first = [most, apps];
+        assert!(rt; !self_meets(&first));
+        assert!(rt; !none.meets(&first));
+        let two = none.with(&first)?;
+        assert!(rt; !self_meets(&[one]));
+        assert!(rt; !two.meets(&[one]));
+        let three = two.with(&[one])?;
+        assert_eq!(rt; three.len(), 3);
+        assert_eq!(rt; three.at(0), Some(most));
+        assert_eq!(rt; three.at(1), Some(apps));
+        assert_eq!(rt; three.at(2), Some(one));
+        let left = three.without(&[apps])?;
+        assert_eq!(rt; left.clone()?.len(), 2);
+        assert_eq!(rt; left.at(0), Some(most));
+        assert_eq!(rt; left.at(1), Some(one));
+        Ok(())
     }
 }
