@@ -62,10 +62,7 @@ fn carried_by(
         family: Family::V4,
         rule: OWN,
     };
-    let plan = Plan::of(
-        vec![in alloc; first, second]?,
-        vec![in alloc; third]?,
-    );
+    let plan = Plan::of(vec![in alloc; first, second]?, vec![in alloc; third]?);
     let carried = carry(&plan, &mut kernel);
     let mut kinds = Vec::new(alloc);
     for place in 0..kernel.entry_count() {
@@ -82,16 +79,24 @@ fn carries_a_plan_out(rt: HostRuntime) -> Result<(), Fail> {
     let alloc = rt.alloc();
     let (carried, kinds) = carried_by(alloc, &[], &[])?;
     assert!(rt; carried == Carried::Done);
-    assert!(rt; kinds.as_slice() == [EntryKind::Added, EntryKind::Added, EntryKind::Deleted]);
+    assert!(rt;
+        kinds.as_slice() == [EntryKind::Added, EntryKind::Added, EntryKind::Deleted].as_slice()
+    );
     let (carried, kinds) = carried_by(alloc, &[2], &[])?;
     assert!(rt; carried == Carried::Undone { request: 2 });
-    assert!(rt; kinds.as_slice() == [EntryKind::Added, EntryKind::Refused, EntryKind::Deleted]);
+    assert!(rt;
+        kinds.as_slice() == [EntryKind::Added, EntryKind::Refused, EntryKind::Deleted].as_slice()
+    );
     let (carried, kinds) = carried_by(alloc, &[], &[1])?;
     assert!(rt; carried == Carried::Halted { request: 3 });
-    assert!(rt; kinds.as_slice() == [EntryKind::Added, EntryKind::Added, EntryKind::Broken]);
+    assert!(rt;
+        kinds.as_slice() == [EntryKind::Added, EntryKind::Added, EntryKind::Broken].as_slice()
+    );
     let (carried, kinds) = carried_by(alloc, &[2], &[1])?;
     assert!(rt; carried == Carried::Halted { request: 3 });
-    assert!(rt; kinds.as_slice() == [EntryKind::Added, EntryKind::Refused, EntryKind::Broken]);
+    assert!(rt;
+        kinds.as_slice() == [EntryKind::Added, EntryKind::Refused, EntryKind::Broken].as_slice()
+    );
     Ok(())
 }
 
@@ -99,7 +104,12 @@ fn carries_a_plan_out(rt: HostRuntime) -> Result<(), Fail> {
 #[test]
 fn follows_and_watches(rt: HostRuntime) -> Result<(), Fail> {
     let alloc = rt.alloc();
-    let packet = Packet::made(Uid::new(10050).ok_or("no UID")?, 0, Addr::V4(0x0808_0808), None);
+    let packet = Packet::made(
+        Uid::new(10050).ok_or("no UID")?,
+        0,
+        Addr::V4(0x0808_0808),
+        None,
+    );
     let mut kernel = SimKernel::new(alloc, Vec::new(alloc), Vec::new(alloc))?;
     kernel.reserve(4)?;
     let first = Request::Rule {
@@ -125,6 +135,11 @@ fn follows_and_watches(rt: HostRuntime) -> Result<(), Fail> {
     assert!(rt; trail.verdict() == Verdict::Prohibited);
     assert_eq!(rt; trail.step_count(), 3);
     let step = trail.step_at(1).ok_or("no step")?;
-    assert!(rt; step == Step { priority: 17000, action: Action::Table(97) });
+    assert!(rt;
+        step == Step {
+            priority: 17000,
+            action: Action::Table(97)
+        }
+    );
     Ok(())
 }

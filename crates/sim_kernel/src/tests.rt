@@ -36,7 +36,13 @@ fn adds_a_rule_and_a_route(rt: HostRuntime) -> Result<(), Fail> {
     kernel.prepare(97)?;
     kernel.add_rule(Family::V4, &LOCAL)?;
     kernel.add_route(97, &route)?;
-    assert!(rt; kernel.walk(&out) == Verdict::Out { link: 5, gateway: None });
+    assert!(rt;
+        kernel.walk(&out)
+            == Verdict::Out {
+                link: 5,
+                gateway: None
+            }
+    );
     assert_eq!(rt; kernel.rule_count(Family::V4), 2);
     assert_eq!(rt; kernel.rule_count(Family::V6), 1);
     assert_eq!(rt; kernel.route_count(255), 2);
