@@ -9,7 +9,7 @@ use Rattle.net_control.specs.declared.controller.StartFault.TheVariants as fault
 use Rattle.std.specs.Prelude.{Ok, Err}
 use Rattle.netd_session.specs.EndedView.{EndedView}
 use Rattle.netd_session.specs.Talks.{EndsLine, HasWriteFault}
-use Rattle.netd_session.specs.Texts.{start_refused_text, start_halted_text}
+use Rattle.turn_text.specs.Texts.{start_refused_text, start_halted_text}
 use Rattle.netd_session.specs.Turns.{Standing, Ran}
 use Rattle.netd_session.specs.declared.turn.Turn.{Turn}
 use Rattle.netd_session.specs.declared.status.Status.{Status}

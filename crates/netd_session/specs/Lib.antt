@@ -1,7 +1,7 @@
 pub mod Offers
 pub mod StatusNumber
 pub mod EndedView
-pub mod Texts
+pub mod Went
 pub mod Turns
 pub mod Talks
 pub mod Ending

@@ -8,8 +8,9 @@ use Rattle.script_reader.specs.BadLines.{IsBadAt}
 use Rattle.script_reader.specs.Lines.{Spells}
 use Rattle.script_reader.specs.declared.line.Line.{Line}
 use Rattle.netd_session.specs.Offers.{Written}
-use Rattle.netd_session.specs.Texts.{numbered, bad_text}
+use Rattle.turn_text.specs.Texts.{numbered, bad_text}
 use Rattle.netd_session.specs.Turns.{Standing, IsAnsweredLine, Goes}
+use Rattle.netd_session.specs.declared.turn.Said.{Said}
 use Rattle.netd_session.specs.declared.turn.Turn.{Turn}
 use Rattle.netd_session.specs.declared.status.Status.{Status}
 use Rattle.netd_session.specs.declared.status.Status.TheVariants as status
@@ -21,6 +22,11 @@ standing controller kernel = record { controller = controller; kernel = kernel }
 abbrev pub Answers : Result (Unit {0}) AllocError → Line → ℕ → (s e : Standing) → (turns after : List Turn) → List ℕ → Type 0
 Answers (Ok u) line n s e turns after out = (more : List Turn) × (after ≡ turns ++ more) × IsAnsweredLine line n s e more out
 Answers (Err f) line n s e turns after out = (e ≡ s) × (after ≡ turns)
+
+-- a question is answered with this turn and this text, or memory was wanting
+abbrev pub Tells : {E : Type 0} → Result Said E → Said → List ℕ → ℕ → List ℕ → Type 0
+Tells (Ok what) said text n out = (what ≡ said) × (out ≡ numbered n text)
+Tells (Err e) said text n out = Unit {0}
 
 -- the text is none of the grammar, from this column on; nothing changes
 pub record IsBad (text : List ℕ) (n : ℕ) (s e : Standing) (more : List Turn) (out : List ℕ) : Type 0 where

@@ -7,7 +7,7 @@ use Rattle.rule_match.specs.Packet.{IsMade}
 use Rattle.rule_match.specs.declared.packet.Packet.{Packet}
 use Rattle.policy_meaning.specs.Policy.{policy}
 use Rattle.net_control.specs.Applied.{IsAnswered}
-use Rattle.net_control.specs.View.{ControllerView}
+use Rattle.net_control.specs.View.{ControllerView, IsKept}
 use Rattle.net_control.specs.declared.controller.Answer.{Answer}
 use Rattle.net_control.specs.declared.controller.Answer.TheVariants as answer
 use Rattle.script_reader.specs.Lines.{Spells}
@@ -15,8 +15,9 @@ use Rattle.script_reader.specs.declared.line.Line.{Line}
 use Rattle.script_reader.specs.declared.line.Line.TheVariants as line
 use Rattle.script_reader.specs.declared.line.TraceLine.TheVariants as trace
 use Rattle.script_reader.specs.declared.line.ShowLine.TheVariants as show
-use Rattle.report_text.specs.Texts.{rules_text}
-use Rattle.netd_session.specs.Texts.{numbered, answer_text, went_text}
+use Rattle.report_text.specs.RuleTexts.{rules_text}
+use Rattle.netd_session.specs.Went.{went_text}
+use Rattle.turn_text.specs.Texts.{numbered, answer_text}
 use Rattle.netd_session.specs.declared.turn.Said.{Said}
 use Rattle.netd_session.specs.declared.turn.Said.TheVariants as said
 use Rattle.netd_session.specs.declared.turn.Turn.{Turn}
@@ -65,11 +66,13 @@ IsAnsweredLine (line.Show (show.Rules family)) n s e turns out =
     (e ≡ s) × (turns ≡ turn_of n said.Shown e ∷ [])
     × (out ≡ numbered n (rules_text s.controller.state (rules_of (state_of s.kernel) family)))
 
--- a line of the grammar, with its number, in these turns and this text
+-- a line of the grammar, with its number, in these turns and this text; behind it the kernel stands for the state, unless
+-- the controller has halted
 pub record Goes (text : List ℕ) (n : ℕ) (s e : Standing) (turns : List Turn) (out : List ℕ) : Type 0 where
   pub line : Line
   pub spelled : Spells text line
   pub answered : IsAnsweredLine line n s e turns out
+  pub kept : IsKept e.controller e.kernel
 
 -- The lines so far, each answered in turn by a controller that runs.
 pub data Ran (begun : Standing) : List (List ℕ) → Standing → List Turn → List ℕ → Type 0 where
