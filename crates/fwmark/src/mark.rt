@@ -1,4 +1,4 @@
-ghost use Rattle.std.specs.Prelude.{◌≡◌, ◌<◌};
+ghost use Rattle.std.specs.Prelude.{◌≡◌, ◌<◌, ◌^◌};
 
 use crate::flags::{MarkFlags, bit_if};
 use bitflags::Flags;
@@ -16,6 +16,7 @@ pub struct Mark {
 }
 
 impl Mark {
+    ghost use Rattle.fwmark.specs.declared.mark.Mark.{Mark};
     ghost use Rattle.fwmark.specs.Mark.{HasFieldsOf, word_of};
 
     /// The mark of a word.
@@ -37,6 +38,7 @@ impl Mark {
     pub fn bits(&self) -> u32
         ensures word { result ≡ word_of self.now }
         ensures inverse { HasFieldsOf result self.now }
+        ensures no_other { (mark : Mark) → mark.net < 2 ^ 16 → word_of mark ≡ result → mark ≡ self.now }
     {
         u32::from(self.net)
             + bit_if(MarkFlags::EXPLICIT, self.explicit)
@@ -44,11 +46,6 @@ impl Mark {
             + (u32::from(self.permission) << 18)
             + (u32::from(self.upper) << 20)
     }
-
-    /// No two marks have one word.
-    pub fn equal_by_word(one: Mark, other: Mark)
-        ensures { word_of one ≡ word_of other → one ≡ other }
-    {}
 }
 
 #[cfg(test)]
