@@ -1,6 +1,7 @@
 pub mod Offers
 pub mod StatusNumber
 pub mod EndedView
+pub mod Says
 pub mod Went
 pub mod Turns
 pub mod Talks

@@ -69,3 +69,28 @@ pub record Takes (result : Option Status) (text : List ℕ) (n : ℕ) (s e : Sta
   pub taken : ℕ
   pub written : Appends old.bytes new.bytes (take taken out)
   pub outcome : IsTaken result text n s e more out taken old.faults new.faults
+
+-- the answer to a line was offered: all of it was taken, and the controller runs or has halted; or a front of it
+abbrev pub IsOfferedAs : Option Status → Option ℕ → (taken whole : ℕ) → (old new : ℕ) → Type 0
+IsOfferedAs None halted taken whole old new = (halted ≡ None) × (taken ≡ whole) × (new ≡ old)
+IsOfferedAs (Some status.Halted) halted taken whole old new = IsSome halted × (taken ≡ whole) × (new ≡ old)
+IsOfferedAs (Some status.WriteFault) halted taken whole old new = (taken < whole) × (old < new)
+IsOfferedAs (Some status.Memory) halted taken whole old new = (taken < whole) × (new ≡ old)
+IsOfferedAs (Some _) halted taken whole old new = ⊥
+
+pub record OffersAnswer (result : Option Status) (halted : Option ℕ) (text : List ℕ) (old new : Written) : Type 0 where
+  pub taken : ℕ
+  pub written : Appends old.bytes new.bytes (take taken text)
+  pub outcome : IsOfferedAs result halted taken (length text) old.faults new.faults
+
+-- the text of a bad line was offered
+abbrev pub IsToldBad : Status → (taken whole : ℕ) → (old new : ℕ) → Type 0
+IsToldBad status.BadLine taken whole old new = (taken ≡ whole) × (new ≡ old)
+IsToldBad status.WriteFault taken whole old new = (taken < whole) × (old < new)
+IsToldBad status.Memory taken whole old new = (taken ≤ whole) × (new ≡ old)
+IsToldBad _ taken whole old new = ⊥
+
+pub record OffersBad (result : Status) (text : List ℕ) (old new : Written) : Type 0 where
+  pub taken : ℕ
+  pub written : Appends old.bytes new.bytes (take taken text)
+  pub outcome : IsToldBad result taken (length text) old.faults new.faults

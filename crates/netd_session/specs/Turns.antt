@@ -16,6 +16,7 @@ use Rattle.script_reader.specs.declared.line.Line.TheVariants as line
 use Rattle.script_reader.specs.declared.line.TraceLine.TheVariants as trace
 use Rattle.script_reader.specs.declared.line.ShowLine.TheVariants as show
 use Rattle.report_text.specs.RuleTexts.{rules_text}
+use Rattle.netd_session.specs.Says.{Says}
 use Rattle.netd_session.specs.Went.{went_text}
 use Rattle.turn_text.specs.Texts.{numbered, answer_text}
 use Rattle.netd_session.specs.declared.turn.Said.{Said}
@@ -26,14 +27,6 @@ use Rattle.netd_session.specs.declared.turn.Turn.{Turn}
 pub record Standing : Type 0 where
   pub controller : ControllerView
   pub kernel : KernelView
-
--- what a turn says of a command's answer; of want of memory there is no turn
-abbrev pub Says : Said → Answer → Type 0
-Says said.Done answer.Done = Unit {0}
-Says (said.Refused c) (answer.Refused d) = c ≡ d
-Says (said.KernelRefused r) (answer.KernelRefused q) = r ≡ q
-Says (said.Halted r) (answer.Halted q) = r ≡ q
-Says _ _ = ⊥
 
 -- the turn of a line with this number, which says this, and behind which the kernel is as it stands then
 abbrev pub turn_of : ℕ → Said → Standing → Turn

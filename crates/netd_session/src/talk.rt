@@ -1,35 +1,40 @@
-ghost use Rattle.std.specs.Prelude.{◌≡◌, [], None};
+ghost use Rattle.std.specs.Prelude.{◌≡◌, ◌++◌, ◌∷◌, ◌+◌, ◌<◌, ◌≤◌, [], None, OnOk, OnErr, IfOk, IfSome, IfNone, vec_len, vec_capacity};
 ghost use Rattle.net_io.specs.Streams.{CanCount};
+ghost use Rattle.turn_text.specs.Texts.{IsCounted, numbered};
+ghost use Rattle.kernel_model.specs.State.{rules_of};
+ghost use Rattle.kernel_model.specs.View.{state_of};
+ghost use Rattle.kernel_model.specs.Walk.{trail_of};
+ghost use Rattle.net_control.specs.View.{IsKept};
+ghost use Rattle.policy_meaning.specs.Policy.{policy};
+ghost use Rattle.report_text.specs.RuleTexts.{rules_text};
+ghost use Rattle.netd_session.specs.Says.{Says};
+ghost use Rattle.netd_session.specs.Went.{went_text};
 
 use crate::output::offer;
 use crate::status::Status;
-use crate::texts::{write_answer_line, write_bad_line, write_line_number, write_mark};
 use crate::turn::{Said, Turn};
 use kernel_model::Kernel;
 use net_control::{Answer, Controller};
 use net_io::{Sink, WriteFault};
+use number_text::append_bytes;
 use packet_trace::follow;
-use prefixes::Family;
+use policy_meaning::table_means_policy;
 use policy_state::Command;
+use prefixes::Family;
 use report_text::{write_rules, write_trail, write_verdict};
 use rule_match::Packet;
-use script_reader::{Line, LineFault, ShowLine, TraceLine, read_line};
+use script_reader::{Line, LineFault, ShowLine, TraceLine, read_line, write_mark};
 use std::alloc::{AllocError, Global};
+use turn_text::{put_answer, write_bad_line, write_number};
 
 /// Room for the answer to any command.
-const ANSWER_ROOM: usize = 64;
-
-/// What a session keeps from line to line.
-#[derive(Drop)]
-pub struct Talk {
-    alloc: Global,
-    controller: Controller,
-    turns: Vec<Turn>,
-    answer: Vec<u8>,
-}
+const ANSWER_ROOM: usize = 80;
 
 // What a turn says of a command's answer.
 fn said_of(answer: Answer) -> Option<Said>
+    ensures says { IfSome result (λ said. Says said answer) }
+    ensures none { IfNone result (answer ≡ Answer.NoMemory) }
+    ensures counted { IsCounted answer }
 {
     match answer {
         Answer::Done => Some(Said::Done),
@@ -40,13 +45,78 @@ fn said_of(answer: Answer) -> Option<Said>
     }
 }
 
+// Puts a turn last, in the room that is there.
+fn put_turn(turns: &mut Vec<Turn>, turn: Turn)
+    requires { vec_len turns.old < vec_capacity turns.old }
+    ensures { turns.new.items ≡ turns.old.items ++ turn ∷ [] }
+{
+    let _ = turns.push(turn);
+}
+
+// Tells where the policy sends the packet, which is where the kernel's rules send it, and the rules that it meets.
+fn tell_packet<K: Kernel>(
+    alloc: Global,
+    number: u32,
+    packet: &Packet,
+    controller: &Controller,
+    kernel: &K,
+    answer: &mut Vec<u8>,
+) -> Result<Said, AllocError>
+    requires kept { IsKept controller.now (K.seen kernel.now) }
+    requires runs { controller.now.halted ≡ None }
+    requires empty { answer.old.items ≡ [] }
+    ensures said { IfOk result (λ said. said ≡ Said.Went packet.now.mark (policy controller.now.state packet.now)) }
+    ensures text { OnOk result (answer.new.items ≡ numbered number (went_text controller.now.state packet.now.mark (policy controller.now.state packet.now) (trail_of (state_of (K.seen kernel.now)) packet.now))) }
+{
+    table_means_policy();
+    let trail = follow(alloc, kernel, packet)?;
+    let verdict = trail.verdict();
+    let mark = packet.mark();
+    write_number(number, answer)?;
+    append_bytes(b"mark ", answer)?;
+    write_mark(mark, answer)?;
+    append_bytes(b" ", answer)?;
+    write_verdict(controller.state(), &verdict, answer)?;
+    append_bytes(b"\n", answer)?;
+    write_trail(&trail, answer)?;
+    Ok(Said::Went { mark, verdict })
+}
+
+// Tells the kernel's rules of a family.
+fn tell_rules<K: Kernel>(
+    number: u32,
+    family: Family,
+    controller: &Controller,
+    kernel: &K,
+    answer: &mut Vec<u8>,
+) -> Result<(), AllocError>
+    requires empty { answer.old.items ≡ [] }
+    ensures text { OnOk result (answer.new.items ≡ numbered number (rules_text controller.now.state (rules_of (state_of (K.seen kernel.now)) family))) }
+{
+    write_number(number, answer)?;
+    write_rules(kernel, controller.state(), family, answer)
+}
+
+/// What a session keeps from line to line.
+#[derive(Drop)]
+pub struct Talk {
+    alloc: Global,
+    controller: Controller,
+    turns: Vec<Turn>,
+    answer: Vec<u8>,
+}
+
 impl Talk {
-    ghost use Rattle.net_control.specs.View.{IsKept};
-    ghost use Rattle.netd_session.specs.Talks.{Answers, Takes, standing};
-    ghost use Rattle.netd_session.specs.Turns.{IsTraced, IsCommanded};
+    ghost use Rattle.script_reader.specs.declared.line.Line.TheVariants as line;
+    ghost use Rattle.turn_text.specs.Texts.{bad_text};
+    ghost use Rattle.netd_session.specs.Talks.{Answers, OffersAnswer, OffersBad, Takes, standing};
+    ghost use Rattle.netd_session.specs.Turns.{turn_of};
 
     /// A session that has begun.
-    pub fn new(alloc: Global, controller: Controller, answer: Vec<u8>) -> Talk {
+    pub fn new(alloc: Global, controller: Controller, answer: Vec<u8>) -> Talk
+        ensures controller { result.controller ≡ controller }
+        ensures turns { result.turns.items ≡ [] }
+    {
         Talk {
             alloc,
             controller,
@@ -56,54 +126,109 @@ impl Talk {
     }
 
     /// The turns so far.
-    pub fn into_turns(self) -> Vec<Turn> {
+    pub fn into_turns(self) -> Vec<Turn>
+        ensures { result.items ≡ self.turns.items }
+    {
         self.turns
     }
 
-    fn push_turn<K: Kernel>(&mut self, line: u32, said: Said, kernel: &K) -> Result<(), AllocError> {
-        let journal_end = kernel.entry_count();
-        self.turns.push(Turn {
-            line,
-            said,
-            journal_end,
-        })?;
-        Ok(())
-    }
-
     // The room is taken first: once the kernel was asked, nothing may fail.
-    fn answer_command<K: Kernel>(&mut self, number: u32, command: &Command, kernel: &mut K) -> Result<(), AllocError> {
+    fn answer_command<K: Kernel>(
+        &mut self,
+        number: u32,
+        command: &Command,
+        kernel: &mut K,
+    ) -> Result<(), AllocError>
+        requires kept { IsKept self.old.controller (K.seen kernel.old) }
+        requires runs { self.old.controller.halted ≡ None }
+        requires empty { self.old.answer.items ≡ [] }
+        ensures answers { Answers result (line.Control command.now) number (standing self.old.controller (K.seen kernel.old)) (standing self.new.controller (K.seen kernel.new)) self.old.turns.items self.new.turns.items self.new.answer.items }
+        ensures kept { IsKept self.new.controller (K.seen kernel.new) }
+    {
         self.turns.reserve(1)?;
         self.answer.reserve(ANSWER_ROOM)?;
         let answer = self.controller.apply(kernel, command);
         let Some(said) = said_of(answer) else {
             return Err(AllocError);
         };
-        write_answer_line(number, &answer, &mut self.answer)?;
-        self.push_turn(number, said, kernel)
-    }
-
-    fn answer_packet<K: Kernel>(&mut self, number: u32, packet: &Packet, kernel: &K) -> Result<(), AllocError> {
-        let trail = follow(self.alloc, kernel, packet)?;
-        let verdict = trail.verdict();
-        write_line_number(number, &mut self.answer)?;
-        write_mark(packet.mark(), &mut self.answer)?;
-        write_verdict(self.controller.state(), &verdict, &mut self.answer)?;
-        self.answer.push(b'\n')?;
-        write_trail(&trail, &mut self.answer)?;
-        let said = Said::Went {
-            mark: packet.mark(),
-            verdict,
+        put_answer(number, &answer, &mut self.answer);
+        let turn = Turn {
+            line: number,
+            said,
+            journal_end: kernel.entry_count(),
         };
-        self.push_turn(number, said, kernel)
+        put_turn(&mut self.turns, turn);
+        Ok(())
     }
 
-    fn show_rules<K: Kernel>(&mut self, number: u32, family: Family, kernel: &K) -> Result<(), AllocError> {
-        write_line_number(number, &mut self.answer)?;
-        write_rules(kernel, self.controller.state(), family, &mut self.answer)?;
-        self.push_turn(number, Said::Shown, kernel)
+    // Puts a turn behind which nothing has changed last.
+    fn note<K: Kernel>(&mut self, number: u32, said: Said, kernel: &K) -> Result<(), AllocError>
+        ensures ok { OnOk result (self.new.turns.items ≡ self.old.turns.items ++ turn_of number said (standing self.old.controller (K.seen kernel.now)) ∷ []) }
+        ensures err { OnErr result (self.new.turns.items ≡ self.old.turns.items) }
+        ensures controller { self.new.controller ≡ self.old.controller }
+        ensures answer { self.new.answer.items ≡ self.old.answer.items }
+    {
+        self.turns.push(Turn {
+            line: number,
+            said,
+            journal_end: kernel.entry_count(),
+        })?;
+        Ok(())
     }
 
-    fn answer_line<K: Kernel>(&mut self, number: u32, line: &Line, kernel: &mut K) -> Result<(), AllocError> {
+    fn answer_packet<K: Kernel>(
+        &mut self,
+        number: u32,
+        packet: &Packet,
+        kernel: &K,
+    ) -> Result<(), AllocError>
+        requires kept { IsKept self.old.controller (K.seen kernel.now) }
+        requires runs { self.old.controller.halted ≡ None }
+        requires empty { self.old.answer.items ≡ [] }
+        ensures ok { OnOk result (self.new.turns.items ≡ self.old.turns.items ++ turn_of number (Said.Went packet.now.mark (policy self.old.controller.state packet.now)) (standing self.old.controller (K.seen kernel.now)) ∷ []) }
+        ensures text { OnOk result (self.new.answer.items ≡ numbered number (went_text self.old.controller.state packet.now.mark (policy self.old.controller.state packet.now) (trail_of (state_of (K.seen kernel.now)) packet.now))) }
+        ensures err { OnErr result (self.new.turns.items ≡ self.old.turns.items) }
+        ensures controller { self.new.controller ≡ self.old.controller }
+    {
+        let said = tell_packet(
+            self.alloc,
+            number,
+            packet,
+            &self.controller,
+            kernel,
+            &mut self.answer,
+        )?;
+        self.note(number, said, kernel)
+    }
+
+    fn show_rules<K: Kernel>(
+        &mut self,
+        number: u32,
+        family: Family,
+        kernel: &K,
+    ) -> Result<(), AllocError>
+        requires empty { self.old.answer.items ≡ [] }
+        ensures ok { OnOk result (self.new.turns.items ≡ self.old.turns.items ++ turn_of number Said.Shown (standing self.old.controller (K.seen kernel.now)) ∷ []) }
+        ensures text { OnOk result (self.new.answer.items ≡ numbered number (rules_text self.old.controller.state (rules_of (state_of (K.seen kernel.now)) family))) }
+        ensures err { OnErr result (self.new.turns.items ≡ self.old.turns.items) }
+        ensures controller { self.new.controller ≡ self.old.controller }
+    {
+        tell_rules(number, family, &self.controller, kernel, &mut self.answer)?;
+        self.note(number, Said::Shown, kernel)
+    }
+
+    fn answer_line<K: Kernel>(
+        &mut self,
+        number: u32,
+        line: &Line,
+        kernel: &mut K,
+    ) -> Result<(), AllocError>
+        requires kept { IsKept self.old.controller (K.seen kernel.old) }
+        requires runs { self.old.controller.halted ≡ None }
+        requires empty { self.old.answer.items ≡ [] }
+        ensures answers { Answers result line.now number (standing self.old.controller (K.seen kernel.old)) (standing self.new.controller (K.seen kernel.new)) self.old.turns.items self.new.turns.items self.new.answer.items }
+        ensures kept { IsKept self.new.controller (K.seen kernel.new) }
+    {
         match line {
             Line::Blank => Ok(()),
             Line::Control(command) => self.answer_command(number, command, kernel),
@@ -114,17 +239,31 @@ impl Talk {
         }
     }
 
-    // Offers the answer. Where the controller has halted, that is the end.
-    fn offer_answer<W: Sink>(&self, sink: &mut W) -> Option<Status> {
+    // Offers the answer to a line. Where the controller has halted, that is the end.
+    fn offer_answer<W: Sink>(&self, sink: &mut W) -> Option<Status>
+        requires { CanCount (W.faults sink.old) }
+        ensures { OffersAnswer result self.now.controller.halted self.now.answer.items
+            (record { bytes = W.written sink.old; faults = W.faults sink.old }) (record { bytes = W.written sink.new; faults = W.faults sink.new }) }
+    {
         match offer(sink, &self.answer) {
-            Ok(()) if self.controller.halted().is_some() => Some(Status::Halted),
-            Ok(()) => None,
+            Ok(()) => match self.controller.halted() {
+                Some(_) => Some(Status::Halted),
+                None => None,
+            },
             Err(WriteFault::Failed) => Some(Status::WriteFault),
             Err(WriteFault::Memory(_)) => Some(Status::Memory),
         }
     }
 
-    fn offer_bad_line<W: Sink>(&mut self, number: u32, column: u32, sink: &mut W) -> Status {
+    // Tells that a line is bad, which is the end.
+    fn offer_bad_line<W: Sink>(&mut self, number: u32, column: u32, sink: &mut W) -> Status
+        requires count { CanCount (W.faults sink.old) }
+        requires empty { self.old.answer.items ≡ [] }
+        ensures offered { OffersBad result (numbered number (bad_text column))
+            (record { bytes = W.written sink.old; faults = W.faults sink.old }) (record { bytes = W.written sink.new; faults = W.faults sink.new }) }
+        ensures turns { self.new.turns.items ≡ self.old.turns.items }
+        ensures controller { self.new.controller ≡ self.old.controller }
+    {
         if write_bad_line(number, column, &mut self.answer).is_err() {
             return Status::Memory;
         }
@@ -142,7 +281,14 @@ impl Talk {
         text: &[u8],
         sink: &mut W,
         kernel: &mut K,
-    ) -> Option<Status> {
+    ) -> Option<Status>
+        requires count { CanCount (W.faults sink.old) }
+        requires kept { IsKept self.old.controller (K.seen kernel.old) }
+        requires runs { self.old.controller.halted ≡ None }
+        ensures takes { Takes result text.now number (standing self.old.controller (K.seen kernel.old)) (standing self.new.controller (K.seen kernel.new)) self.old.turns.items self.new.turns.items
+            (record { bytes = W.written sink.old; faults = W.faults sink.old }) (record { bytes = W.written sink.new; faults = W.faults sink.new }) }
+        ensures kept { IsKept self.new.controller (K.seen kernel.new) }
+    {
         self.answer.clear();
         match read_line(self.alloc, text) {
             Err(LineFault::Memory(_)) => Some(Status::Memory),
