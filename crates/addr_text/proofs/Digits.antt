@@ -1,5 +1,5 @@
 -- Numbers and their digits in a base.
-use Rattle.std.proofs.Common.{◌≡◌, ℕ, ◌+◌, ◌-◌, ◌*◌, ◌/◌, ◌%◌, ◌^◌, ◌<◌, ◌≤◌, List, [], ◌∷◌, ◌++◌, length, take, drop, get_or, zero, suc, sym, ap, ◌∙◌, refl, append_assoc, arith}
+use Rattle.std.proofs.Common.{◌≡◌, ℕ, ◌+◌, ◌-◌, ◌*◌, ◌/◌, ◌%◌, ◌^◌, ◌<◌, ◌≤◌, List, [], ◌∷◌, ◌++◌, length, take, drop, get_or, suc, sym, ap, ◌∙◌, append_assoc, arith}
 use Rattle.std.specs.Int.Digits.{number_from_digits, number_from_digits_after}
 use Rattle.std.proofs.lemmas.Int.Digits.{number_after_append, number_after_ge, number_more}
 use Rattle.std.proofs.lemmas.List.{take-append-drop}
@@ -19,9 +19,9 @@ number_front base i digits some below =
     let front : ℕ = number_from_digits base (take (i + 1) digits) in
     let step : number_from_digits base (take (i + 1) digits) ≡ number_from_digits base (take i digits) * base + get_or digits i 0 = number_more base digits i below in
     let whole : number_from_digits base digits ≡ number_from_digits_after base (number_from_digits base (take (i + 1) digits)) (drop (i + 1) digits) =
-        ap (number_from_digits base) (sym (take-append-drop (i + 1) digits)) ∙ number_after_append base 0 (take (i + 1) digits) (drop (i + 1) digits) in
+    ap (number_from_digits base) (sym (take-append-drop (i + 1) digits)) ∙ number_after_append base 0 (take (i + 1) digits) (drop (i + 1) digits) in
     let grows : number_from_digits base (take (i + 1) digits) ≤ number_from_digits_after base (number_from_digits base (take (i + 1) digits)) (drop (i + 1) digits) =
-        number_after_ge base (number_from_digits base (take (i + 1) digits)) (drop (i + 1) digits) some in
+    number_after_ge base (number_from_digits base (take (i + 1) digits)) (drop (i + 1) digits) some in
     omega arith
 
 -- one digit more is read

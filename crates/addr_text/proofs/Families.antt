@@ -1,8 +1,8 @@
 -- What tells the families apart, and an address from the length behind it.
-use Rattle.std.proofs.Common.{◌≡◌, ℕ, ◌≤◌, ◌<◌, ◌⊎◌, inl, inr, true, false, Bool, eqb, List, [], ◌∷◌, ◌++◌, length, sym, subst, ap, ◌∙◌, refl, arith}
+use Rattle.std.proofs.Common.{◌≡◌, ℕ, ◌≤◌, inl, inr, true, false, eqb, List, [], ◌∷◌, sym, ap, ◌∙◌, refl, arith}
 use Rattle.std.specs.Char.{digit_value}
-use Rattle.addr_text.specs.Forms.{has_byte, separator_of, SpellsPart, SpellsParts}
-use Rattle.addr_text.specs.Grammar.{Spells, SpellsFull, SpellsGroups, SpellsShort, SpellsV4, SpellsV6}
+use Rattle.addr_text.specs.Forms.{has_byte, separator_of, SpellsParts}
+use Rattle.addr_text.specs.Grammar.{Spells, SpellsFull, SpellsGroups, SpellsV4, SpellsV6}
 use Rattle.addr_text.specs.declared.form.Form.{Form}
 use Rattle.addr_text.specs.declared.form.Form.TheVariants as form
 use Rattle.prefixes.specs.declared.addr.Addr.{Addr}
@@ -18,15 +18,15 @@ row_lacks f byte text (x ∷ []) above other spells = SpellsPart-clean f byte te
 row_lacks f byte text (x ∷ y ∷ ys) above other spells =
     ap (has_byte byte) spells.2
     ∙ has_byte-append byte spells.0 (separator_of f ∷ spells.1) (SpellsPart-clean f byte spells.0 x above spells.3)
-        (has_byte-other byte (separator_of f) spells.1 other (row_lacks f byte spells.1 (y ∷ ys) above other spells.4))
+    (has_byte-other byte (separator_of f) spells.1 other (row_lacks f byte spells.1 (y ∷ ys) above other spells.4))
 
 groups_lack : (byte : ℕ) (text groups : List ℕ) → 16 ≤ digit_value byte → eqb 58 byte ≡ false → SpellsGroups text groups → has_byte byte text ≡ false
 groups_lack byte text groups above other (inl full) = row_lacks form.Groups byte text groups above other full.1
 groups_lack byte text groups above other (inr short) =
     ap (has_byte byte) short.cut
     ∙ has_byte-append byte short.left_text (58 ∷ 58 ∷ short.right_text) (row_lacks form.Groups byte short.left_text short.left above other short.left_row)
-        (has_byte-other byte 58 (58 ∷ short.right_text) other
-            (has_byte-other byte 58 short.right_text other (row_lacks form.Groups byte short.right_text short.right above other short.right_row)))
+    (has_byte-other byte 58 (58 ∷ short.right_text) other
+    (has_byte-other byte 58 short.right_text other (row_lacks form.Groups byte short.right_text short.right above other short.right_row)))
 
 -- an address has no slash
 pub no_slash : (text : List ℕ) (a : Addr) → Spells text a → has_byte 47 text ≡ false

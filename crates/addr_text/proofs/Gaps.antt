@@ -8,11 +8,12 @@ use Rattle.addr_text.proofs.Parts.{SpellsPart-clean, SpellsPart-some}
 -- where the two stand
 pub gap_at : (text left right : List ℕ) → text ≡ left ++ 58 ∷ 58 ∷ right →
     (length left + 1 < length text) × (get_or text (length left) 0 ≡ 58) × (get_or text (length left + 1) 0 ≡ 58)
-gap_at text left right e =
-    ( omega (arith, ap length e, length-append left (58 ∷ 58 ∷ right))
-    , ap (λ (t : List ℕ). get_or t (length left) 0) e ∙ get_or_at left 58 (58 ∷ right) 0 (length left) refl
-    , ap (λ (t : List ℕ). get_or t (length left + 1) 0) (e ∙ sym (append_assoc left (58 ∷ []) (58 ∷ right)))
-      ∙ get_or_at (left ++ 58 ∷ []) 58 right 0 (length left + 1) (length-append left (58 ∷ [])) )
+gap_at text left right e = (
+  omega (arith, ap length e, length-append left (58 ∷ 58 ∷ right)),
+  ap (λ (t : List ℕ). get_or t (length left) 0) e ∙ get_or_at left 58 (58 ∷ right) 0 (length left) refl,
+  ap (λ (t : List ℕ). get_or t (length left + 1) 0) (e ∙ sym (append_assoc left (58 ∷ []) (58 ∷ right)))
+      ∙ get_or_at (left ++ 58 ∷ []) 58 right 0 (length left + 1) (length-append left (58 ∷ [])),
+)
 
 abbrev pub has_gap : List ℕ → Bool
 has_gap [] = false
@@ -59,7 +60,7 @@ cut_gap [] [] r s e left right = (refl, cc)
 cut_gap [] (x ∷ []) r s e left right = absurd (let head : x ≡ 58 = cc in let no : true ≡ false = ap (λ (y : ℕ). has_gap (y ∷ 58 ∷ [])) (sym head) ∙ left in cc)
 cut_gap [] (x ∷ y ∷ m) r s e left right =
     absurd (let head : x ≡ 58 = cc in let next : y ≡ 58 = cc in
-        let no : true ≡ false = ap (λ (z : ℕ). has_gap (z ∷ 58 ∷ (m ++ 58 ∷ []))) (sym head) ∙ ap (λ (z : ℕ). has_gap (x ∷ z ∷ (m ++ 58 ∷ []))) (sym next) ∙ left in cc)
+    let no : true ≡ false = ap (λ (z : ℕ). has_gap (z ∷ 58 ∷ (m ++ 58 ∷ []))) (sym head) ∙ ap (λ (z : ℕ). has_gap (x ∷ z ∷ (m ++ 58 ∷ []))) (sym next) ∙ left in cc)
 cut_gap (x ∷ l) [] r s e left right =
     absurd (let tail : l ++ 58 ∷ 58 ∷ r ≡ 58 ∷ s = cc in let no : true ≡ false = sym (has_gap-here l r) ∙ ap has_gap tail ∙ right in cc)
 cut_gap (x ∷ l) (y ∷ m) r s e left right =

@@ -1,5 +1,5 @@
 -- The two forms of eight groups, at a text that is cut at a gap or has none.
-use Rattle.std.proofs.Common.{◌≡◌, ℕ, ◌+◌, ◌-◌, ◌<◌, ◌≤◌, ◌⊎◌, inl, inr, true, false, List, [], ◌∷◌, ◌++◌, length, replicate, sym, subst, ap, ◌∙◌, refl, append_assoc, length-append, arith}
+use Rattle.std.proofs.Common.{◌≡◌, ℕ, ◌+◌, ◌-◌, ◌<◌, ◌≤◌, inl, inr, true, false, List, ◌∷◌, ◌++◌, length, replicate, sym, subst, ap, ◌∙◌, arith}
 use Rattle.addr_text.specs.Forms.{SpellsParts}
 use Rattle.addr_text.specs.Grammar.{SpellsFull, SpellsGroups, SpellsShort}
 use Rattle.addr_text.specs.declared.form.Form.TheVariants as form
@@ -15,9 +15,10 @@ full_lacks_gap text left right groups cut full =
 pub short_cut : (text left right groups : List ℕ) → text ≡ left ++ 58 ∷ 58 ∷ right → (short : SpellsShort text groups) →
     SpellsParts form.Groups left short.left × SpellsParts form.Groups right short.right
 short_cut text left right groups cut short =
-    let same = cut_gap left short.left_text right short.right_text (sym cut ∙ short.cut) (row-colon short.left_text short.left short.left_row) (colon-row short.right_text short.right short.right_row) in
-    ( subst (λ (t : List ℕ). SpellsParts form.Groups t short.left) (sym same.0) short.left_row
-    , subst (λ (t : List ℕ). SpellsParts form.Groups t short.right) (sym same.1) short.right_row )
+    let same = cut_gap left short.left_text right short.right_text (sym cut ∙ short.cut) (row-colon short.left_text short.left short.left_row) (colon-row short.right_text short.right short.right_row) in (
+      subst (λ (t : List ℕ). SpellsParts form.Groups t short.left) (sym same.0) short.left_row,
+      subst (λ (t : List ℕ). SpellsParts form.Groups t short.right) (sym same.1) short.right_row,
+    )
 
 pub none_left : (text left right : List ℕ) → text ≡ left ++ 58 ∷ 58 ∷ right → ((parts : List ℕ) → length parts ≤ 8 → SpellsParts form.Groups left parts → ⊥) →
     (groups : List ℕ) → SpellsGroups text groups → ⊥
@@ -40,12 +41,6 @@ none_many text left right ls rs cut l r many groups (inr short) =
     let same_right : length short.right ≡ length rs = ap length (one_row form.Groups right short.right rs spelled.1 r) in
     omega arith
 
--- no gap, and no row
-pub none_full : (text : List ℕ) → ((left right : List ℕ) → text ≡ left ++ 58 ∷ 58 ∷ right → ⊥) → ((parts : List ℕ) → length parts ≤ 8 → SpellsParts form.Groups text parts → ⊥) →
-    (groups : List ℕ) → SpellsGroups text groups → ⊥
-none_full text whole none groups (inl full) = none groups (omega (arith, full.0)) full.1
-none_full text whole none groups (inr short) = whole short.left_text short.right_text short.cut
-
 -- no gap, and a row of another length
 pub none_count : (text parts : List ℕ) → ((left right : List ℕ) → text ≡ left ++ 58 ∷ 58 ∷ right → ⊥) → SpellsParts form.Groups text parts → (length parts ≡ 8 → ⊥) →
     (groups : List ℕ) → SpellsGroups text groups → ⊥
@@ -62,4 +57,4 @@ one_list text xs ys (inr a) (inr b) =
     let same_left : a.left ≡ b.left = one_row form.Groups b.left_text a.left b.left spelled.0 b.left_row in
     let same_right : a.right ≡ b.right = one_row form.Groups b.right_text a.right b.right spelled.1 b.right_row in
     a.all ∙ ap (λ (l : List ℕ). l ++ (replicate (8 - (length l + length a.right)) 0 ++ a.right)) same_left
-        ∙ ap (λ (r : List ℕ). b.left ++ (replicate (8 - (length b.left + length r)) 0 ++ r)) same_right ∙ sym b.all
+    ∙ ap (λ (r : List ℕ). b.left ++ (replicate (8 - (length b.left + length r)) 0 ++ r)) same_right ∙ sym b.all

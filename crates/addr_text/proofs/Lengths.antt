@@ -1,7 +1,6 @@
 -- How long the written texts are.
-use Rattle.std.proofs.Common.{◌≡◌, ℕ, ◌+◌, ◌-◌, ◌*◌, ◌/◌, ◌%◌, ◌^◌, ◌<◌, ◌≤◌, Bool, true, false, cond, ltb, List, [], ◌∷◌, ◌++◌, length, take, drop, zero, suc, Result, Ok, Err, IsOk, sym, subst, ap, ◌∙◌, refl, length-append, length-drop, arith}
+use Rattle.std.proofs.Common.{◌≡◌, ℕ, ◌+◌, ◌*◌, ◌/◌, ◌%◌, ◌<◌, ◌≤◌, Bool, true, false, cond, ltb, List, [], ◌∷◌, length, take, drop, zero, suc, Result, Ok, Err, IsOk, ap, ◌∙◌, refl, length-append, length-drop, arith}
 use Rattle.std.proofs.Math.Nat.{mod-lt}
-use Rattle.std.specs.Fmt.{decimal}
 use Rattle.std.specs.Int.Digits.{AllBelowBase}
 use Rattle.std.specs.List.{flat_map}
 use Rattle.std.specs.Vec.{vec_len, vec_capacity}
@@ -42,7 +41,7 @@ behind_short f (x ∷ xs) below =
     let first : length (part_text f x) ≤ 4 = part_short f x below.0 in
     let rest : length (flat_map (λ (v : ℕ). separator_of f ∷ part_text f v) xs) ≤ 5 * length xs = behind_short f xs below.1 in
     let both : length (flat_map (λ (v : ℕ). separator_of f ∷ part_text f v) (x ∷ xs)) ≡ length (separator_of f ∷ part_text f x) + length (flat_map (λ (v : ℕ). separator_of f ∷ part_text f v) xs) =
-        length-append (separator_of f ∷ part_text f x) (flat_map (λ (v : ℕ). separator_of f ∷ part_text f v) xs) in
+    length-append (separator_of f ∷ part_text f x) (flat_map (λ (v : ℕ). separator_of f ∷ part_text f v) xs) in
     omega arith
 
 -- at most four bytes a part, and one between each two
@@ -51,19 +50,19 @@ parts_text-length f x xs below =
     let first : length (part_text f x) ≤ 4 = part_short f x below.0 in
     let rest : length (flat_map (λ (v : ℕ). separator_of f ∷ part_text f v) xs) ≤ 5 * length xs = behind_short f xs below.1 in
     let both : length (parts_text f (x ∷ xs)) ≡ length (part_text f x) + length (flat_map (λ (v : ℕ). separator_of f ∷ part_text f v) xs) =
-        ap length (row_text-first (part_text f) (separator_of f) x xs) ∙ length-append (part_text f x) (flat_map (λ (v : ℕ). separator_of f ∷ part_text f v) xs) in
+    ap length (row_text-first (part_text f) (separator_of f) x xs) ∙ length-append (part_text f x) (flat_map (λ (v : ℕ). separator_of f ∷ part_text f v) xs) in
     omega arith
 
 parts_text-short : (f : Form) (xs : List ℕ) → AllBelowBase (base_of f) xs → length (parts_text f xs) ≤ 5 * length xs
 parts_text-short f [] below = omega arith
 parts_text-short f (x ∷ xs) below = let few : length (parts_text f (x ∷ xs)) + 1 ≤ 5 * length (x ∷ xs) = parts_text-length f x xs below in omega arith
 
-below-take : (base k : ℕ) (xs : List ℕ) → AllBelowBase base xs → AllBelowBase base (take k xs)
+pub below-take : (base k : ℕ) (xs : List ℕ) → AllBelowBase base xs → AllBelowBase base (take k xs)
 below-take base zero xs below = tt
 below-take base (suc k) [] below = tt
 below-take base (suc k) (x ∷ xs) below = (below.0, below-take base k xs below.1)
 
-below-drop : (base k : ℕ) (xs : List ℕ) → AllBelowBase base xs → AllBelowBase base (drop k xs)
+pub below-drop : (base k : ℕ) (xs : List ℕ) → AllBelowBase base xs → AllBelowBase base (drop k xs)
 below-drop base zero xs below = below
 below-drop base (suc k) [] below = tt
 below-drop base (suc k) (x ∷ xs) below = below-drop base k xs below.1
@@ -73,7 +72,7 @@ shortened_short run groups eight below within long =
     let left : length (row_text hexadecimal 58 (take run.start groups)) ≤ 5 * length (take run.start groups) = parts_text-short form.Groups (take run.start groups) (below-take 65536 run.start groups below) in
     let right : length (row_text hexadecimal 58 (drop (run.start + run.len) groups)) ≤ 5 * length (drop (run.start + run.len) groups) = parts_text-short form.Groups (drop (run.start + run.len) groups) (below-drop 65536 (run.start + run.len) groups below) in
     let whole : length (shortened_by run groups) ≡ length (row_text hexadecimal 58 (take run.start groups)) + length (58 ∷ 58 ∷ row_text hexadecimal 58 (drop (run.start + run.len) groups)) =
-        length-append (row_text hexadecimal 58 (take run.start groups)) (58 ∷ 58 ∷ row_text hexadecimal 58 (drop (run.start + run.len) groups)) in
+    length-append (row_text hexadecimal 58 (take run.start groups)) (58 ∷ 58 ∷ row_text hexadecimal 58 (drop (run.start + run.len) groups)) in
     let front : length (take run.start groups) ≡ run.start = length-take-le run.start groups (omega arith) in
     omega (arith, length-drop (run.start + run.len) groups)
 

@@ -1,5 +1,5 @@
 -- Rows that are read from the left.
-use Rattle.std.proofs.Common.{◌≡◌, ℕ, ◌+◌, ◌<◌, ◌≤◌, true, false, List, [], ◌∷◌, ◌++◌, length, sym, subst, ap, ◌∙◌, refl, append_assoc, length-append, arith}
+use Rattle.std.proofs.Common.{◌≡◌, ℕ, ◌<◌, true, false, List, [], ◌∷◌, ◌++◌, length, sym, subst, ap, ◌∙◌, refl, append_assoc, length-append, arith}
 use Rattle.addr_text.specs.Forms.{has_byte, separator_of, SpellsPart, SpellsParts}
 use Rattle.addr_text.specs.declared.form.Form.{Form}
 use Rattle.addr_text.proofs.Bytes.{cut_once, has_byte-here}
@@ -28,9 +28,10 @@ cut_off : (f : Form) (rest first others : List ℕ) (x : ℕ) (xs : List ℕ) �
 cut_off f rest first others x [] cut lacks spells =
     absurd (let no : true ≡ false = sym (ap (has_byte (separator_of f)) cut ∙ has_byte-here (separator_of f) first others) ∙ clean f rest x spells in cc)
 cut_off f rest first others x (y ∷ ys) cut lacks spells =
-    let same = cut_once (separator_of f) spells.0 first spells.1 others (clean f spells.0 x spells.3) lacks (sym spells.2 ∙ cut) in
-    ( subst (λ (t : List ℕ). SpellsPart f t x) same.0 spells.3
-    , (y, ys, refl, subst (λ (t : List ℕ). SpellsParts f t (y ∷ ys)) same.1 spells.4) )
+    let same = cut_once (separator_of f) spells.0 first spells.1 others (clean f spells.0 x spells.3) lacks (sym spells.2 ∙ cut) in (
+      subst (λ (t : List ℕ). SpellsPart f t x) same.0 spells.3,
+      (y, ys, refl, subst (λ (t : List ℕ). SpellsParts f t (y ∷ ys)) same.1 spells.4),
+    )
 
 -- one part more
 pub one_more : (f : Form) (text parts rest first others : List ℕ) (x : ℕ) → ReadSoFar f text parts rest →
@@ -47,7 +48,7 @@ one_more f text parts rest first others x before cut lacks part = record { to = 
         let split = cut_off f rest first others found.0 found.1 cut lacks found.3 in
         let same : found.0 ≡ x = SpellsPart-one f first found.0 x split.0 part in
         let whole : all ≡ parts ++ x ∷ split.1.0 ∷ split.1.1 =
-            found.2 ∙ ap (λ (v : ℕ). parts ++ v ∷ found.1) same ∙ ap (λ (vs : List ℕ). parts ++ x ∷ vs) split.1.2 in
+        found.2 ∙ ap (λ (v : ℕ). parts ++ v ∷ found.1) same ∙ ap (λ (vs : List ℕ). parts ++ x ∷ vs) split.1.2 in
         (split.1.0, split.1.1, whole ∙ sym (append_assoc parts (x ∷ []) (split.1.0 ∷ split.1.1)), split.1.3)
 
 -- what stands before the separator is no part
@@ -61,21 +62,6 @@ alone : (f : Form) (rest : List ℕ) (x : ℕ) (xs : List ℕ) → has_byte (sep
 alone f rest x [] lacks spells = (spells, refl)
 alone f rest x (y ∷ ys) lacks spells =
     absurd (let no : true ≡ false = sym (ap (has_byte (separator_of f)) spells.2 ∙ has_byte-here (separator_of f) spells.0 spells.1) ∙ lacks in cc)
-
-pub last_read : (f : Form) (text parts rest : List ℕ) (x : ℕ) → ReadSoFar f text parts rest → SpellsPart f rest x → SpellsParts f text (parts ++ x ∷ [])
-last_read f text parts rest x before part = before.to x [] part
-
-pub no_last : (f : Form) (text parts rest : List ℕ) → ReadSoFar f text parts rest → has_byte (separator_of f) rest ≡ false →
-    ((x : ℕ) → SpellsPart f rest x → ⊥) → (all : List ℕ) → SpellsParts f text all → ⊥
-no_last f text parts rest before lacks none all spells =
-    let found = before.from all spells in none found.0 (alone f rest found.0 found.1 lacks found.3).0
-
--- eight parts, and more behind them
-pub too_many : (f : Form) (text parts rest : List ℕ) → ReadSoFar f text parts rest → 8 ≤ length parts → (all : List ℕ) → length all ≤ 8 → SpellsParts f text all → ⊥
-too_many f text parts rest before many all few spells =
-    let found = before.from all spells in
-    let count : length all ≡ length (parts ++ found.0 ∷ found.1) = ap length found.2 in
-    omega (arith, length-append parts (found.0 ∷ found.1))
 
 -- no text spells two rows
 pub one_row : (f : Form) (text xs ys : List ℕ) → SpellsParts f text xs → SpellsParts f text ys → xs ≡ ys

@@ -1,5 +1,5 @@
 -- Runs of zeros.
-use Rattle.std.proofs.Common.{◌≡◌, ℕ, ◌+◌, ◌<◌, ◌≤◌, Bool, true, false, cond, leb, List, [], ◌∷◌, ◌++◌, length, take, drop, get_or, replicate, zero, suc, refl, sym, ap, ◌∙◌, arith, length-drop}
+use Rattle.std.proofs.Common.{◌≡◌, ℕ, ◌+◌, ◌<◌, ◌≤◌, Bool, true, false, cond, leb, List, [], ◌∷◌, ◌++◌, length, take, drop, get_or, replicate, zero, suc, refl, ap, ◌∙◌, arith, length-drop}
 use Rattle.addr_text.specs.Recommended.{IsZeroRun}
 use Rattle.addr_text.specs.Canonical.{longer_run, longest_run, zeros_of}
 use Rattle.addr_text.specs.declared.run.Run.{Run}
@@ -50,18 +50,18 @@ pub longest_run-parted : (groups : List ℕ) → IsParted groups (longest_run gr
 longest_run-parted [] = refl
 longest_run-parted (g ∷ groups) =
     either_run (IsParted (g ∷ groups)) (leb (longest_run groups).len (zeros_of (g ∷ groups))) (record { start = 0; len = zeros_of (g ∷ groups) }) (record { start = (longest_run groups).start + 1; len = (longest_run groups).len })
-        (parted-front (g ∷ groups)) (parted-cons g groups (longest_run groups) (longest_run-parted groups))
+    (parted-front (g ∷ groups)) (parted-cons g groups (longest_run groups) (longest_run-parted groups))
 
 run_tail : (g : ℕ) (groups : List ℕ) (start len : ℕ) → IsZeroRun (g ∷ groups) (suc start) len → IsZeroRun groups start len
 run_tail g groups start len run = record {
   within = let fits = run.within in omega arith;
-  zeros = λ k below. ap (λ (i : ℕ). get_or (g ∷ groups) i 0) {x = suc (start + k)} {y = suc start + k} (omega arith) ∙ run.zeros k below
+  zeros = λ k below. ap (λ (i : ℕ). get_or (g ∷ groups) i 0) {x = suc (start + k)} {y = suc start + k} (omega arith) ∙ run.zeros k below;
 }
 
 run_cons : (g : ℕ) (groups : List ℕ) (start len : ℕ) → IsZeroRun groups start len → IsZeroRun (g ∷ groups) (start + 1) len
 run_cons g groups start len run = record {
   within = let fits = run.within in omega arith;
-  zeros = λ k below. ap (λ (i : ℕ). get_or (g ∷ groups) i 0) {x = start + 1 + k} {y = suc (start + k)} (omega arith) ∙ run.zeros k below
+  zeros = λ k below. ap (λ (i : ℕ). get_or (g ∷ groups) i 0) {x = start + 1 + k} {y = suc (start + k)} (omega arith) ∙ run.zeros k below;
 }
 
 -- the zeros in front are a run, and none in front is longer
@@ -80,7 +80,7 @@ run_front [] (suc len) run = absurd (let fits = run.within in omega arith)
 run_front (zero ∷ groups) (suc len) run =
     let rest : len ≤ zeros_of groups = run_front groups len (record {
       within = let fits = run.within in omega arith;
-      zeros = λ k below. ap (λ (i : ℕ). get_or (0 ∷ groups) i 0) {x = suc (0 + k)} {y = 0 + suc k} (omega arith) ∙ run.zeros (suc k) (omega arith)
+      zeros = λ k below. ap (λ (i : ℕ). get_or (0 ∷ groups) i 0) {x = suc (0 + k)} {y = 0 + suc k} (omega arith) ∙ run.zeros (suc k) (omega arith);
     }) in omega arith
 run_front (suc g ∷ groups) (suc len) run = absurd (let first : suc g ≡ 0 = run.zeros 0 (omega arith) in omega arith)
 
@@ -112,7 +112,7 @@ pub longest_run-is : (groups : List ℕ) → IsLongest groups (longest_run group
 longest_run-is [] = record {
   zeros = record { within = omega arith; zeros = λ k below. absurd (omega arith) };
   longest = λ start len run. (let fits = run.within in omega arith);
-  first = λ start run. omega arith
+  first = λ start run. omega arith;
 }
 longest_run-is (g ∷ groups) = by (leb (longest_run groups).len (zeros_of (g ∷ groups))) refl (longest_run-is groups)
   where

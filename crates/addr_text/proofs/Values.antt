@@ -1,11 +1,10 @@
 -- The values of what is spelled.
-use Rattle.std.proofs.Common.{◌≡◌, ℕ, ◌+◌, ◌-◌, ◌*◌, ◌^◌, ◌<◌, ◌≤◌, ◌⊎◌, inl, inr, true, false, List, [], ◌∷◌, ◌++◌, length, replicate, zero, suc, sym, subst, ap, ◌∙◌, refl, length-append, arith}
-use Rattle.std.specs.List.{AllByRecursion}
+use Rattle.std.proofs.Common.{◌≡◌, ℕ, ◌+◌, ◌-◌, ◌^◌, ◌<◌, inl, inr, List, [], ◌∷◌, ◌++◌, length, replicate, zero, suc, sym, subst, ap, ◌∙◌, length-append, arith}
 use Rattle.std.specs.Int.Digits.{AllBelowBase, number_from_digits}
 use Rattle.std.proofs.lemmas.Int.Digits.{number_lt}
 use Rattle.std.proofs.lemmas.List.{length-replicate}
-use Rattle.addr_text.specs.Forms.{base_of, has_byte, SpellsPart, SpellsParts}
-use Rattle.addr_text.specs.Grammar.{SpellsFull, SpellsGroups, SpellsShort, SpellsV4, SpellsV6}
+use Rattle.addr_text.specs.Forms.{base_of, SpellsPart, SpellsParts}
+use Rattle.addr_text.specs.Grammar.{SpellsGroups, SpellsV4, SpellsV6}
 use Rattle.addr_text.specs.declared.form.Form.{Form}
 use Rattle.addr_text.specs.declared.form.Form.TheVariants as form
 use Rattle.addr_text.proofs.Parts.{SpellsGroup-small}
@@ -44,19 +43,11 @@ pub groups_below : (text groups : List ℕ) → SpellsGroups text groups → All
 groups_below text groups (inl full) = parts_below form.Groups text groups full.1
 groups_below text groups (inr short) = subst (λ (gs : List ℕ). AllBelowBase 65536 gs) (sym short.all)
     (below-append 65536 short.left (replicate (8 - (length short.left + length short.right)) 0 ++ short.right) (parts_below form.Groups short.left_text short.left short.left_row)
-        (below-append 65536 (replicate (8 - (length short.left + length short.right)) 0) short.right (below-zeros 65536 _ (omega arith)) (parts_below form.Groups short.right_text short.right short.right_row)))
-
--- an IPv4 address has 32 bits, an IPv6 address 128
-pub octets_fit : (octets : List ℕ) → length octets ≡ 4 → AllBelowBase 256 octets → number_from_digits 256 octets < 2 ^ 32
-octets_fit octets four below = let less : number_from_digits 256 octets < 256 ^ length octets = number_lt 256 octets below in
-    let most : 256 ^ length octets ≡ 256 ^ 4 = ap (λ (n : ℕ). 256 ^ n) four in omega arith
+    (below-append 65536 (replicate (8 - (length short.left + length short.right)) 0) short.right (below-zeros 65536 _ (omega arith)) (parts_below form.Groups short.right_text short.right short.right_row)))
 
 pub groups_fit : (groups : List ℕ) → length groups ≡ 8 → AllBelowBase 65536 groups → number_from_digits 65536 groups < 2 ^ 128
 groups_fit groups eight below = let less : number_from_digits 65536 groups < 65536 ^ length groups = number_lt 65536 groups below in
     let most : 65536 ^ length groups ≡ 65536 ^ 8 = ap (λ (n : ℕ). 65536 ^ n) eight in omega arith
-
-pub row_fits : (text octets : List ℕ) → length octets ≡ 4 → SpellsParts form.Octets text octets → number_from_digits 256 octets < 2 ^ 32
-row_fits text octets four spells = octets_fit octets four (parts_below form.Octets text octets spells)
 
 pub list_fits : (text groups : List ℕ) → SpellsGroups text groups → number_from_digits 65536 groups < 2 ^ 128
 list_fits text groups spells = groups_fit groups (groups_eight text groups spells) (groups_below text groups spells)

@@ -32,7 +32,9 @@ zeros_of (suc group ∷ groups) = 0
 
 -- the longer of a run at the front and one behind the first group, the former where they are equally long
 abbrev pub longer_run : ℕ → Run → Run
-longer_run zeros other = if nat_le other.len zeros then record { start = 0; len = zeros } else record { start = other.start + 1; len = other.len }
+longer_run zeros other = if nat_le other.len zeros
+    then record { start = 0; len = zeros }
+    else record { start = other.start + 1; len = other.len }
 
 -- the longest run of zeros, the first of equally long ones
 abbrev pub longest_run : List ℕ → Run
@@ -41,12 +43,15 @@ longest_run (group ∷ groups) = longer_run (zeros_of (group ∷ groups)) (longe
 
 -- '::' stands for this run
 abbrev pub shortened_by : Run → List ℕ → List ℕ
-shortened_by run groups = row_text hexadecimal colon (take run.start groups) ++ colon ∷ colon ∷ row_text hexadecimal colon (drop (run.start + run.len) groups)
+shortened_by run groups = row_text hexadecimal colon (take run.start groups)
+    ++ colon ∷ colon ∷ row_text hexadecimal colon (drop (run.start + run.len) groups)
 
 -- RFC 5952, 4: groups in lower case without leading zeros, and '::' for the longest run of at least two
 -- zero groups
 abbrev pub groups_text : List ℕ → List ℕ
-groups_text groups = if nat_lt (longest_run groups).len 2 then row_text hexadecimal colon groups else shortened_by (longest_run groups) groups
+groups_text groups = if nat_lt (longest_run groups).len 2
+    then row_text hexadecimal colon groups
+    else shortened_by (longest_run groups) groups
 
 -- the text of an address
 abbrev pub canonical : Addr → List ℕ

@@ -1,5 +1,5 @@
 -- The two kinds of rows that addresses are made of: octets with dots, groups with colons.
-use Rattle.std.specs.Prelude.{◌≡◌, ℕ, ◌==◌, Bool, List}
+use Rattle.std.specs.Prelude.{ℕ, ◌==◌, Bool, List}
 use Rattle.std.specs.Fmt.{decimal}
 use Rattle.std.specs.List.{list_any}
 use Rattle.number_text.specs.Numbers.{hexadecimal}

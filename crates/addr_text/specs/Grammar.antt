@@ -21,7 +21,8 @@ colon = 58
 abbrev pub SpellsRow : (List ℕ → ℕ → Type 0) → ℕ → List ℕ → List ℕ → Type 0
 SpellsRow SpellsOne byte text [] = text ≡ []
 SpellsRow SpellsOne byte text (x ∷ []) = SpellsOne text x
-SpellsRow SpellsOne byte text (x ∷ y ∷ xs) = (one : List ℕ) × (others : List ℕ) × (text ≡ one ++ byte ∷ others) × SpellsOne one x × SpellsRow SpellsOne byte others (y ∷ xs)
+SpellsRow SpellsOne byte text (x ∷ y ∷ xs) = (one : List ℕ) × (others : List ℕ)
+    × (text ≡ one ++ byte ∷ others) × SpellsOne one x × SpellsRow SpellsOne byte others (y ∷ xs)
 
 -- a decimal number below 256 without leading zeros
 abbrev pub SpellsOctet : List ℕ → ℕ → Type 0

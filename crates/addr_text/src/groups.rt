@@ -8,7 +8,8 @@ use crate::split::split_at_gap;
 /// Eight groups: the left ones, zeros and the right ones. There is at least one zero between them.
 fn filled_up(left: &[u16], right: &[u16]) -> Option<Parts>
     ensures few { IfSome result (λ groups. (length left.now + length right.now ≤ 7)
-        × (groups.items ≡ left.now ++ (replicate (8 - (length left.now + length right.now)) 0 ++ right.now))) }
+        × (groups.items ≡ left.now
+        ++ (replicate (8 - (length left.now + length right.now)) 0 ++ right.now))) }
     ensures many { IfNone result (7 < length left.now + length right.now) }
 {
     if left.len() > 7 || right.len() > 7 - left.len() {

@@ -1,7 +1,6 @@
-ghost use Rattle.std.specs.Prelude.{◌≡◌, ℕ, ◌^◌, ◌<◌, ◌≤◌, List, length, IfNone, IfSome};
+ghost use Rattle.std.specs.Prelude.{◌≡◌, ℕ, ◌^◌, ◌<◌, ◌≤◌, ◌∷◌, List, length, IfNone, IfSome};
 ghost use Rattle.std.specs.Int.Digits.{number_from_digits};
 ghost use Rattle.std.specs.List.{flat_map};
-ghost use Rattle.std.specs.Prelude.{◌∷◌};
 ghost use Rattle.number_text.specs.Appends.{Appends};
 ghost use Rattle.addr_text.specs.Canonical.{parts_of};
 ghost use Rattle.addr_text.specs.Forms.{base_of, count_of, part_text, parts_text, separator_of, SpellsParts};
@@ -18,7 +17,8 @@ pub type Parts = ArrayVec<u16, 8>;
 /// The parts that the text spells, up to eight.
 pub fn read_parts(text: &[u8], form: Form) -> Option<Parts>
     ensures some { IfSome result (λ parts. SpellsParts form text.now parts.items) }
-    ensures none { IfNone result ((parts : List ℕ) → length parts ≤ 8 → SpellsParts form text.now parts → ⊥) }
+    ensures none { IfNone result ((parts : List ℕ) → length parts ≤ 8 →
+        SpellsParts form text.now parts → ⊥) }
 {
     let mut parts = Parts::new();
     if text.is_empty() {
@@ -68,7 +68,8 @@ fn write_behind(part: u16, form: Form, out: &mut Vec<u8>) -> Result<(), AllocErr
 
 /// Appends the separator and the text of each part.
 fn write_all_behind(parts: &[u16], form: Form, out: &mut Vec<u8>) -> Result<(), AllocError>
-    ensures { Appends out.old out.new result (flat_map (λ part. separator_of form ∷ part_text form part) parts.now) }
+    ensures { Appends out.old out.new result
+        (flat_map (λ part. separator_of form ∷ part_text form part) parts.now) }
 {
     for part in parts {
         write_behind(*part, form, out)?;

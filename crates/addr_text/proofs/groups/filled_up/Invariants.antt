@@ -1,4 +1,4 @@
-use Rattle.std.proofs.Common.{◌≡◌, ◌+◌, ◌-◌, ◌≤◌, ◌++◌, take, length, replicate}
+use Rattle.std.proofs.Common.{◌≡◌, ◌+◌, ◌-◌, ◌++◌, take, length, replicate}
 use Rattle.addr_text.proofs.groups.filled_up.Given as goal
 
 abbrev pub invariant-loop-group : goal.invariant-loop-group

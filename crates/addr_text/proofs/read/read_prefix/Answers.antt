@@ -1,7 +1,3 @@
-use Rattle.std.proofs.Common.{◌≡◌, ◌≤◌, ℕ, List, Option, Some, None, IfNone, IsSome, sym, subst, ap, ◌∙◌, arith}
-use Rattle.prefixes.specs.Addr.{IsPrefix}
-use Rattle.prefixes.specs.declared.prefix.Prefix.{Prefix}
-use Rattle.addr_text.specs.Grammar.{SpellsPrefix}
 use Rattle.addr_text.proofs.Prefixes.{no_base, no_len, no_prefix}
 use Rattle.addr_text.proofs.read.read_prefix.Goals as goal
 
@@ -16,4 +12,4 @@ returns-in_err-read_decimal-clause-none c = rw c.from_residual-in_err-read_decim
 pub returns-clause-none : goal.returns-clause-none
 returns-clause-none c =
     no_prefix c.new.result c.args.text.now c.in_ok-base.base.now c.in_ok-base.len.now (c.in_ok-read_addr).field-0 (c.in_ok-read_decimal).field-0
-        c.in_ok-base.ensures.0 c.in_ok-base.ensures.1 (c.in_ok-read_addr).ensures.some (c.in_ok-read_decimal).ensures.some.0 c.new.ensures.exactly
+    c.in_ok-base.ensures.0 c.in_ok-base.ensures.1 (c.in_ok-read_addr).ensures.some (c.in_ok-read_decimal).ensures.some.0 c.new.ensures.exactly

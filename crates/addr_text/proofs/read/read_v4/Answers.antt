@@ -1,5 +1,4 @@
 use Rattle.std.proofs.Common.{arith}
-use Rattle.std.proofs.lemmas.Bool.Decides.{nat_tests}
 use Rattle.addr_text.proofs.Values.{none_four}
 use Rattle.addr_text.proofs.read.read_v4.Goals as goal
 

@@ -1,4 +1,3 @@
-use Rattle.std.proofs.Common.{ℕ, ◌∷◌}
 use Rattle.number_text.proofs.Appending.{both, rewritten}
 use Rattle.addr_text.proofs.Parts.{parts_text-first}
 use Rattle.addr_text.proofs.row.write_parts.Goals as goal

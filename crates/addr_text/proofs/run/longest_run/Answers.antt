@@ -1,4 +1,4 @@
-use Rattle.std.proofs.Common.{◌+◌, ◌≤◌, length, drop, length-drop, arith}
+use Rattle.std.proofs.Common.{drop, length-drop, arith}
 use Rattle.addr_text.proofs.Runs.{longest_run-within, zeros_of-drop}
 use Rattle.addr_text.proofs.run.longest_run.Goals as goal
 

@@ -1,6 +1,5 @@
 use Rattle.std.proofs.Common.{◌≡◌, ◌+◌, drop}
 use Rattle.addr_text.specs.Canonical.{longest_run, zeros_of}
-use Rattle.addr_text.specs.declared.run.Run.{Run}
 use Rattle.addr_text.proofs.run.longest_run.Given as goal
 
 abbrev pub invariant-loop-start : goal.invariant-loop-start

@@ -1,6 +1,3 @@
-use Rattle.std.proofs.Common.{◌≡◌, ◌<◌, ◌^◌, ◌≤◌, arith, ap}
-use Rattle.std.specs.Str.Parse.{digits_value}
-use Rattle.addr_text.specs.Forms.{SpellsPart}
 use Rattle.addr_text.proofs.Parts.{SpellsGroup-small}
 use Rattle.addr_text.proofs.form.Form.read_part.Goals as goal
 
