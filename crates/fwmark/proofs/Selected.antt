@@ -1,5 +1,5 @@
 -- A value and a mask select a mark exactly where its fields are as the selection states.
-use Rattle.std.proofs.Common.{◌≡◌, ◌∙◌, ℕ, ◌+◌, ◌*◌, ◌/◌, ◌%◌, ◌^◌, ◌==◌, ◌&&◌, ◌<◌, ◌≤◌, zero, suc, Bool, true, false, Option, None, Some, refl, sym, ap, arith, bit_and}
+use Rattle.std.proofs.Common.{◌≡◌, ◌∙◌, ℕ, ◌+◌, ◌*◌, ◌/◌, ◌%◌, ◌==◌, ◌&&◌, ◌<◌, zero, suc, Bool, true, false, Option, None, Some, refl, sym, ap, arith, bit_and}
 use Rattle.std.proofs.lemmas.Bool.Decides.{nat_tests}
 use Rattle.std.proofs.lemmas.Nat.{and_block, and_mask, and_le_l, and_le_r}
 use Rattle.fwmark.specs.declared.permission.Permission.{Permission}
@@ -97,16 +97,16 @@ value_and_mask-select rule word fits =
     let mask_is : mask_of rule ≡ ((q * 2 + h) * 2 + f) * 0x10000 + m = omega arith in
     let value_is : value_of rule ≡ ((q * 2 + flag_value rule.guarded) * 2 + flag_value rule.explicit) * 0x10000 + net_value rule.net = omega arith in
     let read : bit_and word (mask_of rule) ≡ ((bit_and p q * 2 + bit_and g h) * 2 + bit_and e f) * 0x10000 + bit_and n m =
-        ap (λ w. bit_and w (mask_of rule)) word_is
-        ∙ ap (bit_and ((((word / 0x100000 * 4 + p) * 2 + g) * 2 + e) * 0x10000 + n)) mask_is
-        ∙ and-fields (word / 0x100000) p g e n q h f m (omega arith) (bits_of-below rule.permission) (omega arith) (flag_mask-below rule.guarded) (omega arith) (flag_mask-below rule.explicit) (omega arith) (net_mask-below rule.net) in
+    ap (λ w. bit_and w (mask_of rule)) word_is
+    ∙ ap (bit_and ((((word / 0x100000 * 4 + p) * 2 + g) * 2 + e) * 0x10000 + n)) mask_is
+    ∙ and-fields (word / 0x100000) p g e n q h f m (omega arith) (bits_of-below rule.permission) (omega arith) (flag_mask-below rule.guarded) (omega arith) (flag_mask-below rule.explicit) (omega arith) (net_mask-below rule.net) in
     ap (λ x. x == value_of rule) read
     ∙ ap (λ v. ((bit_and p q * 2 + bit_and g h) * 2 + bit_and e f) * 0x10000 + bit_and n m == v) value_is
     ∙ pairs-65536 ((bit_and p q * 2 + bit_and g h) * 2 + bit_and e f) ((q * 2 + flag_value rule.guarded) * 2 + flag_value rule.explicit) (bit_and n m) (net_value rule.net) (omega (arith, and_le_l n m)) fits
     ∙ ap (λ t. t && (bit_and n m == net_value rule.net))
-      (pairs-2 (bit_and p q * 2 + bit_and g h) (q * 2 + flag_value rule.guarded) (bit_and e f) (flag_value rule.explicit) (omega (arith, and_le_l e f)) (flag_value-below rule.explicit)
-        ∙ ap (λ t. t && (bit_and e f == flag_value rule.explicit))
-          (pairs-2 (bit_and p q) q (bit_and g h) (flag_value rule.guarded) (omega (arith, and_le_l g h)) (flag_value-below rule.guarded)))
+    (pairs-2 (bit_and p q * 2 + bit_and g h) (q * 2 + flag_value rule.guarded) (bit_and e f) (flag_value rule.explicit) (omega (arith, and_le_l e f)) (flag_value-below rule.explicit)
+    ∙ ap (λ t. t && (bit_and e f == flag_value rule.explicit))
+    (pairs-2 (bit_and p q) q (bit_and g h) (flag_value rule.guarded) (omega (arith, and_le_l g h)) (flag_value-below rule.guarded)))
     ∙ tests
   where
     tests : ((((bit_and (word / 0x40000 % 4) (bits_of rule.permission) == bits_of rule.permission)

@@ -1,5 +1,5 @@
 -- Which marks a rule's value and mask select, said by fields.
-use Rattle.std.specs.Prelude.{ℕ, ◌+◌, ◌*◌, ◌-◌, ◌^◌, ◌==◌, ◌&&◌, Bool, true, false, not, Option, None, Some}
+use Rattle.std.specs.Prelude.{ℕ, ◌+◌, ◌*◌, ◌==◌, ◌&&◌, Bool, true, false, not, Option, None, Some}
 use Rattle.fwmark.specs.declared.permission.Permission.{Permission}
 use Rattle.fwmark.specs.Permission.{bits_of, suffices}
 use Rattle.fwmark.specs.Mark.{net_of, is_explicit, is_protected, permission_of_mark}

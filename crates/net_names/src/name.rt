@@ -110,12 +110,24 @@ mod tests {
 
     #[test]
     fn takes_names_alone(rt: HostRuntime) -> Result<(), Fail> {
-        let names = [b"lo".as_slice(), b"rmnet_data0", b"wlan-2.4", b"exactly15bytes_"];
+        let names = [
+            b"lo".as_slice(),
+            b"rmnet_data0",
+            b"wlan-2.4",
+            b"exactly15bytes_",
+        ];
         for bytes in names {
             let name = Name::from_bytes(bytes).ok_or("a name")?;
             assert_eq!(rt; name.as_bytes(), bytes);
         }
-        let others = [b"".as_slice(), b"sixteen_bytes_16", b"a b", b"a/b", b"a\0", b"\x80"];
+        let others = [
+            b"".as_slice(),
+            b"sixteen_bytes_16",
+            b"a b",
+            b"a/b",
+            b"a\0",
+            b"\x80",
+        ];
         for bytes in others {
             assert!(rt; Name::from_bytes(bytes).is_none());
         }

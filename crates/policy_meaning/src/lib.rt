@@ -6,3 +6,6 @@ mod laws;
 
 pub use decision::decide;
 pub use laws::{barred_stays_in, table_means_policy};
+
+#[cfg(test)]
+mod tests;

@@ -8,3 +8,6 @@ mod state;
 pub use command::Command;
 pub use fault::StepFault;
 pub use state::State;
+
+#[cfg(test)]
+mod tests;

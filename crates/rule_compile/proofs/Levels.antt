@@ -1,11 +1,10 @@
 -- What a command makes of the rules of each level.
-use Rattle.std.proofs.Common.{◌≡◌, ◌∷◌, [], suc, List, Bool, true, None, Some, Option, refl, sym, ◌∙◌, ap, subst, arith, map, not}
-use Rattle.std.proofs.lemmas.Bool.{false_from_ne_true}
+use Rattle.std.proofs.Common.{◌≡◌, ◌∷◌, [], suc, List, Bool, true, None, Some, refl, ap, subst, arith, map, not}
+use Rattle.std.proofs.lemmas.Bool.{false_from_ne_true, or_parts}
 use Rattle.std.proofs.lemmas.Bool.Decides.{nat_tests}
 use Rattle.uid_ranges.specs.Range.{holds}
 use Rattle.uid_ranges.specs.Ranges.{AreDisjoint, meets_any, self_meets, has as has_range}
 use Rattle.uid_ranges.specs.declared.range.UidRange.{UidRange}
-use Rattle.uid_ranges.proofs.Disjoint.{neither}
 use Rattle.rule_law.specs.Rules.{has, HasEachOnce}
 use Rattle.rule_law.specs.Parts.{TurnsInto}
 use Rattle.rule_law.proofs.Turning.{TurnsInto-same}
@@ -13,7 +12,7 @@ use Rattle.rule_match.specs.declared.rule.Rule.{Rule}
 use Rattle.kernel_model.specs.Kind.{rule_kind}
 use Rattle.policy_state.specs.View.{StateView, IsGood}
 use Rattle.policy_state.specs.Step.{refusal, changed}
-use Rattle.policy_state.specs.Table.{Level, Lockdown, Explicit, LocalNetwork, Last, rules_at, lockdown_rule, explicit_local_rule, local_rule, last_rule}
+use Rattle.policy_state.specs.Table.{Level, Lockdown, Explicit, LocalNetwork, Last, rules_at, lockdown_rule}
 use Rattle.policy_state.specs.declared.command.Command.{Command}
 use Rattle.policy_state.specs.declared.command.Command.TheVariants.{LockdownAdd, LockdownRemove}
 use Rattle.policy_state.proofs.Goodness.{good-changed}
@@ -35,7 +34,7 @@ lockdown-once (range ∷ ranges) disjoint = (
       let there : holds row.item range.first.number ≡ true = subst (λ r. holds r range.first.number ≡ true) same (holds_first range) in
       let places : 0 ≡ suc row.place = one_place (range ∷ ranges) 0 (suc row.place) range.first.number range row.item disjoint refl row.at (holds_first range) there in
       omega arith),
-  lockdown-once ranges (neither (meets_any range ranges) (self_meets ranges) disjoint).1,
+  lockdown-once ranges (or_parts (meets_any range ranges) (self_meets ranges) disjoint).1,
 )
 
 pub level-once : (s : StateView) → IsGood s → (level : Level) → HasEachOnce rule_kind (rules_at s level)

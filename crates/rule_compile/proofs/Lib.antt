@@ -3,3 +3,4 @@ pub mod Twins
 pub mod Rows
 pub mod Levels
 pub mod Tables
+pub mod Asking

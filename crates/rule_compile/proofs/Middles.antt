@@ -57,6 +57,6 @@ are_middles one other one_rest other_rest front m n one_is other_is same_front s
   end = drop m one_rest;
   one_is = sym (take-append-drop front one) ∙ ap (λ zs. take front one ++ zs) (sym one_is ∙ sym (take-append-drop m one_rest));
   other_is = sym (take-append-drop front other)
-  ∙ (ap (λ zs. zs ++ drop front other) (sym same_front)
-  ∙ ap (λ zs. take front one ++ zs) (sym other_is ∙ (sym (take-append-drop n other_rest) ∙ ap (λ zs. take n other_rest ++ zs) (sym same_end))));
+      ∙ (ap (λ zs. zs ++ drop front other) (sym same_front)
+      ∙ ap (λ zs. take front one ++ zs) (sym other_is ∙ (sym (take-append-drop n other_rest) ∙ ap (λ zs. take n other_rest ++ zs) (sym same_end))));
 }

@@ -1,6 +1,6 @@
 -- Rows of rules, one for each of some items, as items come and go.
-use Rattle.std.proofs.Common.{◌≡◌, ◌≤◌, ◌∷◌, [], ◌++◌, ℕ, zero, suc, length, take, slice_get, Some, None, arith, List, Bool, true, false, refl, sym, ◌∙◌, ap, subst, inl, inr, map, filter}
-use Rattle.std.proofs.lemmas.Bool.{cases_Bool, false≢true, false_from_ne_true}
+use Rattle.std.proofs.Common.{◌≡◌, ◌≤◌, ◌∷◌, [], ◌++◌, ℕ, zero, suc, length, take, slice_get, Some, None, arith, List, Bool, true, refl, sym, ◌∙◌, ap, subst, inl, inr, map, filter}
+use Rattle.std.proofs.lemmas.Bool.{cases_Bool, false≢true}
 use Rattle.std.proofs.lemmas.List.{map-append}
 use Rattle.rule_law.specs.Rules.{has, HasEachOnce, AreAbsent}
 use Rattle.rule_law.specs.Parts.{TurnsInto}

@@ -1,26 +1,26 @@
 -- The tables of a state before and after a command are as the two-lists law asks.
-use Rattle.std.proofs.Common.{◌≡◌, ◌≤◌, ◌+◌, ◌∷◌, [], ℕ, List, Bool, true, false, None, Some, Option, is_some, refl, sym, ◌∙◌, ap, subst, arith, lit≤, cond}
-use Rattle.std.specs.Prelude.{flat_map}
+use Rattle.std.proofs.Common.{◌≡◌, ◌∷◌, [], List, true, None, is_some, refl, lit≤, inl, inr}
 use Rattle.std.proofs.lemmas.Bool.{cases_Bool, false≢true, and_from, eq-eqb}
-use Rattle.rule_law.specs.Rules.{has, NoneBelow, Rises, HasEachOnce, GiversAreAlike}
+use Rattle.rule_law.specs.Rules.{NoneBelow, Rises, HasEachOnce, GiversAreAlike}
 use Rattle.rule_law.specs.Plans.{AreOldAndNew}
 use Rattle.rule_law.specs.Parts.{TurnsInto, EachPart, HaveDistinctKeys, KeysRise, ShowKeys}
 use Rattle.rule_law.proofs.Keys.{HasEachOnce-joined, Rises-joined, TurnsInto-joined, each_rises}
 use Rattle.rule_law.proofs.Turning.{TurnsInto-conditions}
-use Rattle.rule_law.proofs.Beside.{own-old_and_new}
 use Rattle.rule_match.specs.Rule.{matches}
 use Rattle.rule_match.specs.declared.packet.Packet.{Packet}
 use Rattle.rule_match.specs.declared.rule.Rule.{Rule}
 use Rattle.kernel_model.specs.Kind.{rule_kind}
 use Rattle.kernel_model.specs.KindLaws.{alike_priority}
-use Rattle.kernel_model.specs.State.{NumberedTable, own_rule}
+use Rattle.kernel_model.specs.State.{KernelState, NumberedTable}
+use Rattle.kernel_model.specs.Switch.{IsSwitch}
 use Rattle.kernel_model.specs.Walk.{rule_gives}
 use Rattle.policy_state.specs.View.{StateView, IsGood}
 use Rattle.policy_state.specs.Step.{refusal, changed}
 use Rattle.policy_state.specs.Table.{Level, levels, priority_of, rules_at, rule_table}
 use Rattle.policy_state.specs.declared.command.Command.{Command}
 use Rattle.policy_state.proofs.Goodness.{good-changed}
-use Rattle.policy_state.proofs.Levels.{level-priority}
+use Rattle.policy_state.proofs.Levels.{level-priority, table-alike}
+use Rattle.rule_compile.specs.Asked.{routes_gone, MayStep}
 use Rattle.rule_compile.proofs.Levels.{level-once, level-turns}
 
 -- what holds of each level holds of each in a list of levels
@@ -67,8 +67,21 @@ tables-old_and_new s command good accepted =
       new_behind = order.1;
     }
 
--- with the kernel's own rule in front
-pub with_own-old_and_new : (s : StateView) (command : Command) → IsGood s → refusal s command ≡ None → AreOldAndNew rule_kind (own_rule ∷ rule_table s) (own_rule ∷ rule_table (changed s command))
-with_own-old_and_new s command good accepted =
-    own-old_and_new rule_kind own_rule (rule_table s) (rule_table (changed s command)) (table-behind_own s) (table-behind_own (changed s command))
-    (tables-old_and_new s command good accepted)
+-- a rule that gives a packet something matches it
+giver-matches : (tables : List NumberedTable) (p : Packet) (x : Rule) → is_some (rule_gives tables p x) ≡ true → matches x p ≡ true
+giver-matches tables p x h = elim (cases_Bool (matches x p)) [ inl t ↦ t | inr t ↦ absurd (false≢true (rw t at h)) ]
+
+-- two rules of a table that have equal priority and give a packet something have equal selectors
+pub table-givers : (s : StateView) (tables : List NumberedTable) (p : Packet) → IsGood s → GiversAreAlike rule_kind (rule_gives tables p) (rule_table s)
+table-givers s tables p good = λ x y in_x in_y same gives_x gives_y.
+    and_from _ _ (eq-eqb x.priority y.priority same)
+    (table-alike s p x y good in_x in_y same (giver-matches tables p x gives_x) (giver-matches tables p y gives_y))
+
+pub is_switch : (k : KernelState) (s : StateView) (command : Command) → MayStep k s command → IsSwitch k (rule_table s) (rule_table (changed s command)) (routes_gone s (changed s command))
+is_switch k s command may = record {
+  in_family = may.stands.in_family;
+  old_and_new = tables-old_and_new s command may.good may.accepted;
+  old_behind = table-behind_own s;
+  new_behind = table-behind_own (changed s command);
+  unused = tt;
+}

@@ -2,9 +2,8 @@
 use Rattle.std.proofs.Common.{◌≡◌, ◌∷◌, ◌++◌, [], List, refl, ap}
 use Rattle.prefixes.specs.declared.addr.Family.TheVariants as family
 use Rattle.rule_match.specs.declared.rule.Rule.{Rule}
-use Rattle.kernel_model.specs.declared.request.Request.{Request}
 use Rattle.kernel_model.specs.declared.request.Request.TheVariants as req
-use Rattle.rule_compile.specs.Asked.{twins}
+use Rattle.kernel_model.specs.Switch.{twins}
 
 pub twins-append : (rules more : List Rule) → twins (rules ++ more) ≡ twins rules ++ twins more
 twins-append [] more = refl

@@ -1,27 +1,37 @@
 -- What a kernel is asked in order to be brought from one state's rules to another's.
-use Rattle.std.specs.Prelude.{◌≡◌, List, [], ◌∷◌, ◌++◌, reverse}
-use Rattle.prefixes.specs.declared.addr.Family.TheVariants as family
-use Rattle.kernel_model.specs.Kind.{rule_kind}
+use Rattle.std.specs.Prelude.{◌≡◌, ℕ, List, [], None}
+use Rattle.prefixes.specs.declared.route.Route.{Route}
 use Rattle.kernel_model.specs.PlanView.{PlanView}
+use Rattle.kernel_model.specs.Stands.{Stands}
+use Rattle.kernel_model.specs.State.{KernelState}
+use Rattle.kernel_model.specs.Switch.{additions, deletions, switched}
 use Rattle.kernel_model.specs.declared.request.Request.{Request}
-use Rattle.kernel_model.specs.declared.request.Request.TheVariants as req
-use Rattle.policy_state.specs.Table.{rule_table}
-use Rattle.policy_state.specs.View.{StateView}
-use Rattle.rule_law.specs.Plans.{beyond}
-use Rattle.rule_match.specs.declared.rule.Rule.{Rule}
+use Rattle.policy_state.specs.Step.{refusal}
+use Rattle.policy_state.specs.Table.{rule_table, route_list}
+use Rattle.policy_state.specs.View.{StateView, IsGood}
+use Rattle.policy_state.specs.declared.command.Command.{Command}
 
--- each rule for IPv4 and then for IPv6
-abbrev pub twins : List Rule → List Request
-twins [] = []
-twins (rule ∷ rules) = req.Rule family.V4 rule ∷ req.Rule family.V6 rule ∷ twins rules
+-- the routes of the links that leave a network: none, as no state has a route
+abbrev pub routes_gone : StateView → StateView → List (ℕ × Route)
+routes_gone old new = []
 
--- the rules that the new table has and the old one lacks, in the order of the new one
+-- the rules that the new table has and the old one lacks, in the order of the new one, each for IPv4 and then for IPv6
 abbrev pub asked_adds : StateView → StateView → List Request
-asked_adds old new = twins (beyond rule_kind (rule_table old) (rule_table new))
+asked_adds old new = additions (rule_table old) (rule_table new)
 
--- the rules that the old table has and the new one lacks, in the reverse order of the old one, each for IPv6 and then for IPv4
+-- the rules that the old table has and the new one lacks, in the reverse order of the old one, each for IPv6 and then for IPv4; and then the routes that go
 abbrev pub asked_deletes : StateView → StateView → List Request
-asked_deletes old new = reverse (twins (beyond rule_kind (rule_table new) (rule_table old)))
+asked_deletes old new = deletions (rule_table old) (rule_table new) (routes_gone old new)
 
 abbrev pub asked : StateView → StateView → PlanView
 asked old new = record { adds = asked_adds old new; deletes = asked_deletes old new }
+
+-- the kernel when all of this is done
+abbrev pub carried : KernelState → StateView → StateView → KernelState
+carried k old new = switched k (rule_table old) (rule_table new) (routes_gone old new)
+
+-- The kernel stands for the state, and the state accepts the command.
+pub record MayStep (k : KernelState) (s : StateView) (command : Command) : Type 0 where
+  pub good : IsGood s
+  pub accepted : refusal s command ≡ None
+  pub stands : Stands k (rule_table s) (route_list s)

@@ -1,2 +1,3 @@
-pub mod Asked
 pub mod Middles
+pub mod Asked
+pub mod Distinct

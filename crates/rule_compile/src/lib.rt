@@ -3,8 +3,13 @@
 #![tactic(auto)]
 
 mod difference;
+mod laws;
 mod requests;
 mod table;
 
+pub use laws::{plan_ends, plan_law, requests_can_be_asked, tables_are_lawful};
 pub use requests::plan;
 pub use table::{rule_count, rules};
+
+#[cfg(test)]
+mod tests;

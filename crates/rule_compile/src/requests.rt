@@ -1,5 +1,6 @@
 ghost use Rattle.std.specs.Prelude.{◌≡◌, ◌+◌, ◌*◌, ◌++◌, IfOk, List, reverse};
-ghost use Rattle.rule_compile.specs.Asked.{asked, twins};
+ghost use Rattle.kernel_model.specs.Switch.{twins};
+ghost use Rattle.rule_compile.specs.Asked.{asked};
 
 use crate::difference::{beyond, middles};
 use crate::table::rules;

@@ -22,11 +22,15 @@ const PROTECTED: u32 = 0x20000;
 
 /// A packet's mark selects this network explicitly, by these bits and the id.
 const SELECTS_LOCAL: u32 = 0x10063;
+
 const SELECTION: u32 = 0x1ffff;
 
 const LOCKDOWN_PRIORITY: u32 = 12500;
+
 const EXPLICIT_PRIORITY: u32 = 13000;
+
 const LOCAL_PRIORITY: u32 = 17000;
+
 const LAST_PRIORITY: u32 = 32000;
 
 fn lockdown_rule(range: UidRange) -> Rule

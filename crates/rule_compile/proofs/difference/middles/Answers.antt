@@ -1,4 +1,4 @@
-use Rattle.std.proofs.Common.{◌≡◌, ◌-◌, ◌≤◌, ℕ, List, length, take, drop, arith, length-drop}
+use Rattle.std.proofs.Common.{◌≡◌, ◌-◌, ℕ, List, length, take, drop, arith, length-drop}
 use Rattle.rule_match.specs.declared.rule.Rule.{Rule}
 use Rattle.std.proofs.lemmas.List.{take_all}
 use Rattle.rule_compile.proofs.Middles.{are_middles}

@@ -1,13 +1,14 @@
 use Rattle.std.proofs.Common.{◌≡◌, List, reverse, ap, ◌∙◌, sym, subst}
+use Rattle.std.proofs.lemmas.List.{append-nil}
 use Rattle.rule_law.specs.Rules.{HasEachOnce}
 use Rattle.rule_law.specs.Plans.{beyond}
 use Rattle.rule_match.specs.declared.rule.Rule.{Rule}
 use Rattle.kernel_model.specs.Kind.{rule_kind}
 use Rattle.kernel_model.specs.PlanView.{PlanView}
 use Rattle.kernel_model.specs.declared.request.Request.{Request}
-use Rattle.policy_state.specs.View.{StateView}
 use Rattle.policy_state.specs.Table.{rule_table}
-use Rattle.rule_compile.specs.Asked.{asked, asked_adds, asked_deletes, twins}
+use Rattle.kernel_model.specs.Switch.{twins}
+use Rattle.rule_compile.specs.Asked.{asked_adds, asked_deletes}
 use Rattle.rule_compile.specs.Middles.{AreMiddles}
 use Rattle.rule_compile.proofs.Middles.{beyond-middles, middles-turned}
 use Rattle.rule_compile.proofs.requests.plan.Goals as goal
@@ -30,4 +31,4 @@ returns c =
     let gone = difference (rule_table c.args.new.now) (rule_table c.args.old.now) _ _ _ _ new_is old_is (middles-turned _ _ _ _ c.middles.ensures) c.in_ok-old_rules.ensures.once in
     c.of.ensures ∙ both _ _ (asked_adds c.args.old.now c.args.new.now) (asked_deletes c.args.old.now c.args.new.now)
     (c.in_ok-adds.ensures ∙ ap twins (c.deref-3.ensures.value ∙ (c.in_ok-beyond.ensures ∙ came)))
-    (c.reverse.ensures.items ∙ ap reverse (c.in_ok-deletes.ensures ∙ ap twins (c.deref-4.ensures.value ∙ (c.in_ok-beyond-2.ensures ∙ gone))))
+    (c.reverse.ensures.items ∙ (ap reverse (c.in_ok-deletes.ensures ∙ ap twins (c.deref-4.ensures.value ∙ (c.in_ok-beyond-2.ensures ∙ gone))) ∙ sym (append-nil _)))

@@ -1,10 +1,10 @@
-use Rattle.std.proofs.Common.{◌≡◌, ◌+◌, ◌<◌, ◌++◌, ◌∷◌, [], List, length, get_or, take, ap, ◌∙◌, sym, arith, append_assoc}
+use Rattle.std.proofs.Common.{◌≡◌, ◌+◌, ◌<◌, ◌++◌, ◌∷◌, [], List, length, take, ap, ◌∙◌, sym, arith, append_assoc}
 use Rattle.std.proofs.lemmas.List.{take_more}
 use Rattle.prefixes.specs.declared.addr.Family.TheVariants as family
 use Rattle.rule_match.specs.declared.rule.Rule.{Rule}
 use Rattle.kernel_model.specs.declared.request.Request.{Request}
 use Rattle.kernel_model.specs.declared.request.Request.TheVariants as req
-use Rattle.rule_compile.specs.Asked.{twins}
+use Rattle.kernel_model.specs.Switch.{twins}
 use Rattle.rule_compile.proofs.Twins.{twins-append}
 use Rattle.rule_compile.proofs.requests.twins.Goals as goal
 

@@ -1,5 +1,5 @@
 use Rattle.std.proofs.Common.{◌≡◌, take}
-use Rattle.rule_compile.specs.Asked.{twins}
+use Rattle.kernel_model.specs.Switch.{twins}
 use Rattle.rule_compile.proofs.requests.twins.Given as goal
 
 abbrev pub invariant-loop-rule : goal.invariant-loop-rule

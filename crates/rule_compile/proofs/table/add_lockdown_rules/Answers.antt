@@ -1,4 +1,4 @@
-use Rattle.std.proofs.Common.{◌≡◌, ◌<◌, ◌+◌, ◌++◌, ◌∷◌, [], ℕ, suc, List, Some, map, take, length, slice_get, ap, sym, ◌∙◌, arith, add-one, append_assoc}
+use Rattle.std.proofs.Common.{◌≡◌, ◌<◌, ◌+◌, ◌++◌, ◌∷◌, [], ℕ, List, Some, map, take, length, slice_get, ap, sym, ◌∙◌, arith, add-one, append_assoc}
 use Rattle.uid_ranges.specs.declared.range.UidRange.{UidRange}
 use Rattle.rule_match.specs.declared.rule.Rule.{Rule}
 use Rattle.policy_state.specs.Table.{lockdown_rule}
@@ -17,7 +17,7 @@ pub loop-place-preserved : goal.loop-place-preserved
 loop-place-preserved c = elim c.match-at.branch [
   | in-Some+in_ok-push w ↦
       rw w.rules-is (one_more _ _ _ c.args.ranges.now c.loop-place.place w.in-Some.range (sym c.at.ensures ∙ w.in-Some.is) c.loop-place.invariant
-          (w.in_ok-push.ensures.items ∙ ap (λ rule. c.loop-place.rules.items ++ rule ∷ []) w.lockdown_rule.ensures))
+      (w.in_ok-push.ensures.items ∙ ap (λ rule. c.loop-place.rules.items ++ rule ∷ []) w.lockdown_rule.ensures))
   | in_default w ↦
       let past = slice_get-past c.args.ranges.now c.loop-place.place (sym c.at.ensures ∙ w.in_default.is) in
       let within : c.loop-place.place < length c.args.ranges.now = omega arith in
