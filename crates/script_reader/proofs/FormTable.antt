@@ -1,5 +1,5 @@
 -- The forms of lines, and the lines that are of each form.
-use Rattle.std.proofs.Common.{◌≡◌, ◌↔◌, ℕ, List, [], ◌∷◌, refl, slice_get, Some}
+use Rattle.std.proofs.Common.{◌≡◌, ◌↔◌, ◌⊎◌, inl, inr, ℕ, List, [], ◌∷◌, refl, slice_get, Some}
 use Rattle.policy_state.specs.declared.command.Command.{Command}
 use Rattle.policy_state.specs.declared.command.Command.TheVariants as command
 use Rattle.prefixes.specs.declared.addr.Family.TheVariants as family
@@ -14,7 +14,7 @@ use Rattle.script_reader.specs.declared.line.TraceLine.{TraceLine}
 use Rattle.script_reader.specs.declared.line.TraceLine.TheVariants as trace
 use Rattle.script_reader.specs.Forms.{kinds_of}
 use Rattle.script_reader.specs.Grammar.{Kind, Piece, ValueOf, AreSpelled}
-use Rattle.script_reader.specs.Lines.{Says}
+use Rattle.script_reader.specs.Lines.{Says, pieces_of}
 
 -- a value for each word
 abbrev pub Values : List Kind → Type 0
@@ -32,6 +32,13 @@ line_with form.LockdownRemove (_, (_, (users, _))) = line.Control (command.Lockd
 line_with form.Packet (_, (user, (bits, (dest, _)))) = line.Trace (trace.Made user bits dest)
 line_with form.ShowRules4 _ = line.Show (show.Rules family.V4)
 line_with form.ShowRules6 _ = line.Show (show.Rules family.V6)
+
+pub pieces_are : (form : Form) (values : Values (kinds_of form)) → pieces_of (line_with form values) ≡ pieces_with (kinds_of form) values
+pieces_are form.LockdownAdd values = refl
+pieces_are form.LockdownRemove values = refl
+pieces_are form.Packet values = refl
+pieces_are form.ShowRules4 values = refl
+pieces_are form.ShowRules6 values = refl
 
 -- what such a line says
 pub says_with : (form : Form) (values : Values (kinds_of form)) (words : List (List ℕ)) →
@@ -58,6 +65,12 @@ trace_parts (trace.Made user bits dest) = record { form = form.Packet; values = 
 pub show_parts : (s : ShowLine) → Parts (line.Show s)
 show_parts (show.Rules family.V4) = record { form = form.ShowRules4; values = (tt, (tt, (tt, tt))); same = refl }
 show_parts (show.Rules family.V6) = record { form = form.ShowRules6; values = (tt, (tt, (tt, tt))); same = refl }
+
+pub parts_of : (l : Line) → (l ≡ line.Blank) ⊎ Parts l
+parts_of line.Blank = inl refl
+parts_of (line.Control c) = inr (control_parts c)
+parts_of (line.Trace t) = inr (trace_parts t)
+parts_of (line.Show s) = inr (show_parts s)
 
 -- where a form stands in the list of all forms
 abbrev pub place_of : Form → ℕ

@@ -1,8 +1,8 @@
 -- Words that begin a line of a form.
 use Rattle.std.proofs.Common.{◌≡◌, ◌⊎◌, ℕ, ◌+◌, ◌<◌, ◌≤◌, ◌==◌, ◌||◌, Bool, true, false, suc, cond, List, [], ◌∷◌, ◌++◌, length, map, refl, sym, ap, ◌∙◌, subst, inl, inr, arith}
 use Rattle.std.specs.Fmt.{decimal}
-use Rattle.addr_text.specs.Grammar.{SpellsOctet, SpellsV4, dot}
-use Rattle.number_text.proofs.Spelled.{SpellsDecimal-decimal}
+use Rattle.addr_text.specs.Canonical.{canonical}
+use Rattle.addr_text.proofs.Written.{canonical_spelled}
 use Rattle.prefixes.specs.declared.addr.Addr.TheVariants as address
 use Rattle.uid_ranges.specs.declared.range.Uid.{Uid}
 use Rattle.script_reader.specs.Cursor.{Stops}
@@ -21,34 +21,13 @@ Fronts (kind ∷ kinds) (text ∷ others) = ((value : ValueOf kind) × IsSpelled
 abbrev root : Uid
 root = record { number = 0; in_range = omega arith }
 
--- 0.0.0.0
-zero_octet : SpellsOctet (decimal 0) 0
-zero_octet = (SpellsDecimal-decimal 0 (omega arith), omega arith)
-
-abbrev zeros : List ℕ
-zeros = decimal 0 ++ dot ∷ (decimal 0 ++ dot ∷ (decimal 0 ++ dot ∷ decimal 0))
-
-zeros_spelled : SpellsV4 zeros 0
-zeros_spelled = record {
-  octets = 0 ∷ 0 ∷ 0 ∷ 0 ∷ [];
-  four = refl;
-  row = (
-    decimal 0,
-    decimal 0 ++ dot ∷ (decimal 0 ++ dot ∷ decimal 0),
-    refl,
-    zero_octet,
-    (decimal 0, decimal 0 ++ dot ∷ decimal 0, refl, zero_octet, (decimal 0, decimal 0, refl, zero_octet, zero_octet)),
-  );
-  number = refl;
-}
-
 -- each kind has a word
 sample : (kind : Kind) → (value : ValueOf kind) × (text : List ℕ) × IsSpelled kind value text
 sample (literal text) = (tt, text, refl)
 sample uid = (root, decimal 0, SpellsUid-decimal root)
 sample range = (record { first = root; last = root; ordered = omega arith }, range_text root root, SpellsRange-text (record { first = root; last = root; ordered = omega arith }))
 sample mark = (0, mark_text 0, SpellsMark-text 0 (omega arith))
-sample addr = (address.V4 0, zeros, zeros_spelled)
+sample addr = (address.V4 0, canonical (address.V4 0), canonical_spelled (address.V4 0) (omega arith))
 
 samples : (kinds : List Kind) → (values : Values kinds) × (words : List (List ℕ)) × AreSpelled (pieces_with kinds values) words
 samples [] = (tt, [], tt)

@@ -3,8 +3,14 @@ pub mod Farthest
 pub mod FormSteps
 pub mod FormTable
 pub mod Fronts
+pub mod OneColumn
+pub mod OneLine
+pub mod OneValue
 pub mod Ranges
 pub mod Marks
+pub mod Graphic
+pub mod Joined
 pub mod LineOutcomes
+pub mod Sayable
 pub mod WordLemmas
 pub mod Written

@@ -13,9 +13,8 @@ use Rattle.script_reader.specs.declared.fault.LineFault.TheVariants.{Bad, Memory
 use Rattle.script_reader.specs.declared.form.Form.{Form}
 use Rattle.script_reader.specs.declared.form.TheConstants.{FORMS}
 use Rattle.script_reader.specs.declared.line.Line.{Line}
-use Rattle.script_reader.specs.declared.line.Line.TheVariants as line
 use Rattle.script_reader.specs.declared.words.Words.{Words}
-use Rattle.script_reader.proofs.FormTable.{Parts, Values, at_place, control_parts, line_with, pieces_with, place_of, says_with, show_parts, trace_parts}
+use Rattle.script_reader.proofs.FormTable.{Values, at_place, line_with, parts_of, pieces_with, place_of, says_with}
 use Rattle.script_reader.proofs.Fronts.{Fronts, IsColumnOf, IsCut, IsRising, continued, cut_where, fronts_of, rising, stops_behind, stops_no_line}
 
 all_at : {X : Type 0} (P : X → Type 0) (xs : List X) (place : ℕ) (x : X) → AllByRecursion P xs → slice_get xs place ≡ Some x → P x
@@ -30,13 +29,10 @@ stops_of cursor column farthest form = all_at (StopsBy cursor column) FORMS (pla
 -- what says a line is blank, or is of a form
 said : (l : Line) (words : List (List ℕ)) → Says l words →
     IsBlank words ⊎ ((form : Form) × (values : Values (kinds_of form)) × AreSpelled (pieces_with (kinds_of form) values) words)
-said line.Blank words says = inl says
-said (line.Control c) words says = let parts = control_parts c in
-    inr (parts.form, parts.values, (says_with parts.form parts.values words).0 (subst (λ (l : Line). Says l words) parts.same says))
-said (line.Trace t) words says = let parts = trace_parts t in
-    inr (parts.form, parts.values, (says_with parts.form parts.values words).0 (subst (λ (l : Line). Says l words) parts.same says))
-said (line.Show s) words says = let parts = show_parts s in
-    inr (parts.form, parts.values, (says_with parts.form parts.values words).0 (subst (λ (l : Line). Says l words) parts.same says))
+said l words says = elim (parts_of l) [
+      inl blank ↦ inl (subst (λ (m : Line). Says m words) blank says)
+    | inr parts ↦ inr (parts.form, parts.values, (says_with parts.form parts.values words).0 (subst (λ (m : Line). Says m words) parts.same says))
+    ]
 
 -- the first words of a form begin a line
 front_begins : (form : Form) (words : List (List ℕ)) → Fronts (kinds_of form) words → Begins words
@@ -113,7 +109,7 @@ goes_wrong text cursor column is_text words_are end_is filled farthest = by cut.
           place = at;
         })
 
-not_all : (before : List ℕ) (byte : ℕ) (behind : List ℕ) → is_printable byte ≡ false → list_all is_printable (before ++ byte ∷ behind) ≡ true → ⊥
+pub not_all : (before : List ℕ) (byte : ℕ) (behind : List ℕ) → is_printable byte ≡ false → list_all is_printable (before ++ byte ∷ behind) ≡ true → ⊥
 not_all [] byte behind bad all = by (is_printable byte) bad all
   where
     by : (b : Bool) → b ≡ false → (b && list_all is_printable behind) ≡ true → ⊥
@@ -125,7 +121,7 @@ not_all (first ∷ before) byte behind bad all = by (is_printable first) (not_al
     by true rest e = rest e
     by false rest e = cc
 
-texts_cut : (before : List Word) (word : Word) (behind : List Word) → texts (before ++ word ∷ behind) ≡ texts (before ++ word ∷ []) ++ texts behind
+pub texts_cut : (before : List Word) (word : Word) (behind : List Word) → texts (before ++ word ∷ behind) ≡ texts (before ++ word ∷ []) ++ texts behind
 texts_cut [] word behind = refl
 texts_cut (first ∷ before) word behind = ap (λ (ts : List (List ℕ)). first.text ∷ ts) (texts_cut before word behind)
 

@@ -9,7 +9,7 @@ use Rattle.script_reader.specs.Grammar.{SpellsRange, SpellsUid, dash, range}
 use Rattle.script_reader.specs.Cursor.{Gives}
 
 -- no numeral has a '-'
-no_dash : (text : List ℕ) → AllDigits 10 text → has_byte dash text ≡ false
+pub no_dash : (text : List ℕ) → AllDigits 10 text → has_byte dash text ≡ false
 no_dash text all = has_byte-digits 10 dash text (omega arith) all
 
 -- the two UIDs of a range stand before and behind the first '-'

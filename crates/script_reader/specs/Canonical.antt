@@ -1,14 +1,15 @@
 -- The one text that is written for a line.
-use Rattle.std.specs.Prelude.{ℕ, List, [], ◌∷◌, ◌++◌, codes, map}
+use Rattle.std.specs.Prelude.{◌≡◌, ℕ, ◌<◌, ◌≤◌, ◌^◌, List, [], ◌∷◌, ◌++◌, codes, length, map}
 use Rattle.std.specs.Fmt.{decimal}
 use Rattle.std.specs.List.{join_with_byte}
 use Rattle.addr_text.specs.Canonical.{canonical as addr_text}
 use Rattle.number_text.specs.Numbers.{hexadecimal}
+use Rattle.prefixes.specs.Addr.{IsAddr}
 use Rattle.uid_ranges.specs.declared.range.Uid.{Uid}
 use Rattle.script_reader.specs.declared.line.Line.{Line}
 use Rattle.script_reader.specs.declared.line.Line.TheVariants as line
 use Rattle.script_reader.specs.Grammar.{Kind, Piece, ValueOf, dash, literal, uid, range, mark, addr}
-use Rattle.script_reader.specs.Lines.{pieces_of}
+use Rattle.script_reader.specs.Lines.{line_limit, pieces_of}
 use Rattle.script_reader.specs.Words.{space}
 
 abbrev pub range_text : Uid → Uid → List ℕ
@@ -30,6 +31,24 @@ piece_text piece = value_text piece.kind piece.value
 -- the words with one space between each two; nothing for a line that says nothing
 abbrev pub canonical : Line → List ℕ
 canonical line = join_with_byte space (map piece_text (pieces_of line))
+
+-- the value lies within the form of its word
+abbrev pub IsWithin : (kind : Kind) → ValueOf kind → Type 0
+IsWithin (literal text) value = Unit {0}
+IsWithin uid value = value.number ≤ 4294967294
+IsWithin range value = (value.first.number ≤ value.last.number) × (value.last.number ≤ 4294967294)
+IsWithin mark value = value < 2 ^ 32
+IsWithin addr value = IsAddr value
+
+abbrev pub AreWithin : List Piece → Type 0
+AreWithin [] = Unit {0}
+AreWithin (piece ∷ pieces) = IsWithin piece.kind piece.value × AreWithin pieces
+
+-- a line that has a canonical text
+pub record IsSayable (l : Line) : Type 0 where
+  pub filled : l ≡ line.Blank → ⊥
+  pub within : AreWithin (pieces_of l)
+  pub short : length (canonical l) ≤ line_limit
 
 abbrev pub line_feed : ℕ
 line_feed = 10

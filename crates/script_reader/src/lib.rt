@@ -4,6 +4,7 @@
 mod control;
 mod fault;
 mod form;
+mod laws;
 mod line;
 mod print;
 mod read;
@@ -13,6 +14,7 @@ mod values;
 mod words;
 
 pub use fault::LineFault;
+pub use laws::{canonical_text, one_column, one_line};
 pub use line::{Line, ShowLine, TraceLine};
 pub use print::{print_line, write_mark, write_range, write_uid};
 pub use read::read_line;

@@ -1,0 +1,5 @@
+pub mod Links
+pub mod Verdicts
+pub mod Actions
+pub mod Trails
+pub mod RuleTexts

@@ -1,0 +1,132 @@
+-- What spells a word has bytes that are printed and are no space.
+use Rattle.std.proofs.Common.{◌≡◌, ◌⊎◌, ℕ, ◌+◌, ◌<◌, ◌≤◌, ◌==◌, ◌&&◌, Bool, true, false, not, List, [], ◌∷◌, ◌++◌, length, nat_le, nat_lt, refl, sym, ap, ◌∙◌, subst, inl, inr, arith}
+use Rattle.std.proofs.lemmas.Bool.Decides.{nat_tests}
+use Rattle.std.proofs.lemmas.List.Folds.{list_all-append}
+use Rattle.std.specs.Char.{digit_value}
+use Rattle.std.specs.List.{list_all}
+use Rattle.std.specs.Str.Parse.{AllDigits}
+use Rattle.addr_text.specs.Grammar.{Spells as SpellsAddr, SpellsGroup, SpellsOctet, SpellsRow, SpellsShort, SpellsV4, SpellsV6, colon, dot}
+use Rattle.prefixes.specs.declared.addr.Addr.{Addr}
+use Rattle.prefixes.specs.declared.addr.Addr.TheVariants as address
+use Rattle.script_reader.specs.Grammar.{Kind, ValueOf, IsSpelled, SpellsMark, SpellsRange, SpellsUid, addr, dash, literal, mark, range, uid}
+use Rattle.script_reader.specs.Lines.{is_printable}
+use Rattle.script_reader.proofs.OneLine.{both_true}
+use Rattle.script_reader.specs.Words.{is_no_space}
+
+-- printed, and no space
+abbrev pub is_graphic : ℕ → Bool
+is_graphic byte = nat_lt 32 byte && nat_le byte 126
+
+digit_graphic : (base digit : ℕ) → base ≤ 36 → digit_value digit < base → is_graphic digit ≡ true
+digit_graphic base digit low below = grind (arith, nat_tests)
+
+pub graphic_printed : (byte : ℕ) → is_graphic byte ≡ true → is_printable byte ≡ true
+graphic_printed byte e = grind (arith, nat_tests)
+
+pub graphic_no_space : (byte : ℕ) → is_graphic byte ≡ true → is_no_space byte ≡ true
+graphic_no_space byte e = grind (arith, nat_tests)
+
+-- these bytes are graphic, and there is one
+pub record IsGraphic (text : List ℕ) : Type 0 where
+  pub all : list_all is_graphic text ≡ true
+  pub some : 0 < length text
+
+both : (a b : Bool) → a ≡ true → b ≡ true → (a && b) ≡ true
+both a b p q = rw (p, q) refl
+
+all_join : (left right : List ℕ) → list_all is_graphic left ≡ true → list_all is_graphic right ≡ true → list_all is_graphic (left ++ right) ≡ true
+all_join left right one other = list_all-append is_graphic left right ∙ both (list_all is_graphic left) (list_all is_graphic right) one other
+
+digits_graphic : (base : ℕ) (text : List ℕ) → base ≤ 36 → AllDigits base text → list_all is_graphic text ≡ true
+digits_graphic base [] low all = refl
+digits_graphic base (digit ∷ text) low all = both (is_graphic digit) (list_all is_graphic text) (digit_graphic base digit low all.0) (digits_graphic base text low all.1)
+
+uid_graphic : (text : List ℕ) (value : _) → SpellsUid text value → IsGraphic text
+uid_graphic text value spelled = record { all = digits_graphic 10 text (omega arith) spelled.0.numeral.1; some = spelled.0.numeral.0 }
+
+range_graphic : (text : List ℕ) (value : _) → SpellsRange text value → IsGraphic text
+range_graphic text value spelled =
+    let first = uid_graphic spelled.first_text value.first spelled.first in
+    let last = uid_graphic spelled.last_text value.last spelled.last in
+    subst IsGraphic (sym spelled.cut) (record {
+      all = all_join spelled.first_text (dash ∷ spelled.last_text) first.all last.all;
+      some = more spelled.first_text spelled.last_text;
+    })
+  where
+    more : (left right : List ℕ) → 0 < length (left ++ dash ∷ right)
+    more [] right = omega arith
+    more (byte ∷ left) right = omega arith
+
+mark_graphic : (text : List ℕ) (value : ℕ) → SpellsMark text value → IsGraphic text
+mark_graphic text value spelled =
+    subst IsGraphic (sym spelled.cut) (record { all = digits_graphic 16 spelled.digits (omega arith) spelled.number.number.numeral.1; some = omega arith })
+
+-- a row of texts that are graphic, with a graphic byte between each two
+row_graphic : (One : List ℕ → ℕ → Type 0) (byte : ℕ) → is_graphic byte ≡ true → ((text : List ℕ) (value : ℕ) → One text value → list_all is_graphic text ≡ true) →
+    (text values : List ℕ) → SpellsRow One byte text values → list_all is_graphic text ≡ true
+row_graphic One byte plain each text [] row = ap (list_all is_graphic) row
+row_graphic One byte plain each text (x ∷ []) row = each text x row
+row_graphic One byte plain each text (x ∷ y ∷ xs) row =
+    ap (list_all is_graphic) row.2
+    ∙ all_join row.0 (byte ∷ row.1) (each row.0 x row.3)
+      (both (is_graphic byte) (list_all is_graphic row.1) plain (row_graphic One byte plain each row.1 (y ∷ xs) row.4))
+
+octet_graphic : (text : List ℕ) (value : ℕ) → SpellsOctet text value → list_all is_graphic text ≡ true
+octet_graphic text value spelled = digits_graphic 10 text (omega arith) spelled.0.numeral.1
+
+group_graphic : (text : List ℕ) (value : ℕ) → SpellsGroup text value → list_all is_graphic text ≡ true
+group_graphic text value spelled = digits_graphic 16 text (omega arith) spelled.0.1
+
+behind : (left right : List ℕ) (byte : ℕ) → 0 < length (left ++ byte ∷ right)
+behind [] right byte = omega arith
+behind (first ∷ left) right byte = omega arith
+
+row_some : (One : List ℕ → ℕ → Type 0) (byte : ℕ) (text values : List ℕ) → 2 ≤ length values → SpellsRow One byte text values → 0 < length text
+row_some One byte text [] many row = absurd (omega arith)
+row_some One byte text (x ∷ []) many row = absurd (omega arith)
+row_some One byte text (x ∷ y ∷ xs) many row = subst (λ (t : List ℕ). 0 < length t) (sym row.2) (behind row.0 row.1 byte)
+
+v4_graphic : (text : List ℕ) (value : ℕ) → SpellsV4 text value → IsGraphic text
+v4_graphic text value spelled = record {
+  all = row_graphic SpellsOctet dot refl octet_graphic text spelled.octets spelled.row;
+  some = row_some SpellsOctet dot text spelled.octets (omega (arith, spelled.four)) spelled.row;
+}
+
+short_graphic : (text groups : List ℕ) → SpellsShort text groups → IsGraphic text
+short_graphic text groups spelled =
+    let left = row_graphic SpellsGroup colon refl group_graphic spelled.left_text spelled.left spelled.left_row in
+    let right = row_graphic SpellsGroup colon refl group_graphic spelled.right_text spelled.right spelled.right_row in
+    subst IsGraphic (sym spelled.cut) (record {
+      all = all_join spelled.left_text (colon ∷ colon ∷ spelled.right_text) left right;
+      some = behind spelled.left_text (colon ∷ spelled.right_text) colon;
+    })
+
+v6_graphic : (text : List ℕ) (value : ℕ) → SpellsV6 text value → IsGraphic text
+v6_graphic text value spelled = elim spelled.form [
+      inl full ↦ record {
+        all = row_graphic SpellsGroup colon refl group_graphic text spelled.groups full.1;
+        some = row_some SpellsGroup colon text spelled.groups (omega (arith, full.0)) full.1;
+      }
+    | inr short ↦ short_graphic text spelled.groups short
+    ]
+
+addr_graphic : (text : List ℕ) (value : Addr) → SpellsAddr text value → IsGraphic text
+addr_graphic text (address.V4 value) spelled = v4_graphic text value spelled
+addr_graphic text (address.V6 value) spelled = v6_graphic text value spelled
+
+-- a word of its own that is graphic
+abbrev pub is_plain : Kind → Bool
+is_plain (literal text) = list_all is_graphic text && nat_lt 0 (length text)
+is_plain uid = true
+is_plain range = true
+is_plain mark = true
+is_plain addr = true
+
+pub spelled_graphic : (kind : Kind) (value : ValueOf kind) (text : List ℕ) → is_plain kind ≡ true → IsSpelled kind value text → IsGraphic text
+spelled_graphic (literal word) value text plain spelled =
+    let parts = both_true (list_all is_graphic word) (nat_lt 0 (length word)) plain in
+    subst IsGraphic (sym spelled) (record { all = parts.0; some = let test : nat_lt 0 (length word) ≡ true = parts.1 in grind (arith, nat_tests) })
+spelled_graphic uid value text plain spelled = uid_graphic text value spelled
+spelled_graphic range value text plain spelled = range_graphic text value spelled
+spelled_graphic mark value text plain spelled = mark_graphic text value spelled
+spelled_graphic addr value text plain spelled = addr_graphic text value spelled

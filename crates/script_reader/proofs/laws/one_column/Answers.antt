@@ -1,0 +1,5 @@
+use Rattle.script_reader.proofs.OneColumn.{one_column}
+use Rattle.script_reader.proofs.laws.one_column.Goals as goal
+
+pub returns : goal.returns
+returns c = one_column
