@@ -1,5 +1,5 @@
 -- Keys stay distinct.
-use Rattle.std.proofs.Common.{◌≡◌, ◌++◌, ◌||◌, ◌&&◌, Bool, true, false, cond, not, List, [], ◌∷◌, refl, sym, ◌∙◌, ap, inl, inr}
+use Rattle.std.proofs.Common.{◌≡◌, ◌++◌, Bool, true, false, cond, not, List, [], ◌∷◌, refl, inl, inr}
 use Rattle.std.specs.List.{list_any, filter}
 use Rattle.std.proofs.lemmas.Bool.{cases_Bool, both_ways, or_parts, or_from, and_parts, and_from, not-true, not_from_false}
 use Rattle.prefixes.specs.Route.{same_key}

@@ -62,7 +62,7 @@ deleted-leaves (req.Route n route) h = absurd (false≢true (sym h))
 abbrev AreRules : List Request → Type 0
 AreRules qs = AllByRecursion (λ q. is_route q ≡ false) qs
 
-twins-rules : (rules : List Rule) → AreRules (twins rules)
+pub twins-rules : (rules : List Rule) → AreRules (twins rules)
 twins-rules [] = tt
 twins-rules (r ∷ rs) = (refl, (refl, twins-rules rs))
 

@@ -87,12 +87,16 @@ module _ (old new : List Rule) (before behind : List (Request Rule)) (may : MayC
         ends = subst (λ rules. Stands rule_kind rules new) (sym (ap rules_of g ∙ rules_of-more before (plan rule_kind old new))) end;
       }
 
-  pub stops_on_the_way : (made rest : List (Request Rule)) → made ++ rest ≡ plan rule_kind old new → behind ≡ before ++ made → StopsBetween old new before behind
-  stops_on_the_way made rest c g = record {
+  pub stops_on_the_way : (made : List (Request Rule)) (broken : Rule) (rest : List (Request Rule)) → made ++ Delete broken ∷ rest ≡ plan rule_kind old new
+      → behind ≡ before ++ made → StopsBetween old new before behind
+  stops_on_the_way made broken rest c g = record {
     requests = made;
     grew = g;
-    in_turn = in_turn made rest c;
-    old_or_new = λ packet. each_done (length made) (verdict_at packet (rules_of before) made) (verdict_by packet old) (verdict_by packet new) (goes packet made rest c);
+    in_turn = in_turn made (Delete broken ∷ rest) c;
+    old_or_new = λ packet. each_done (length made) (verdict_at packet (rules_of before) made) (verdict_by packet old) (verdict_by packet new) (goes packet made (Delete broken ∷ rest) c);
+    broken = broken;
+    rest = rest;
+    stopped = inl c;
   }
 
   -- along a front of the undoing, where the first so many of the new rules have been looked at
@@ -133,12 +137,16 @@ module _ (old new : List Rule) (before behind : List (Request Rule)) (may : MayC
           as_before = ap rules_of g ∙ (rules_of-more before (undone additions) ∙ end);
         }
 
-    pub stops_on_the_way_back : (made rest : List (Request Rule)) → made ++ rest ≡ undone (beyond rule_kind old (take place new)) → behind ≡ before ++ made
-        → StopsBetween old new before behind
+    pub stops_on_the_way_back : (made : List (Request Rule)) (broken : Rule) (rest : List (Request Rule))
+        → made ++ Delete broken ∷ rest ≡ undone (beyond rule_kind old (take place new)) → behind ≡ before ++ made → StopsBetween old new before behind
     unfolding additions
-    stops_on_the_way_back made rest c g = record {
+    stops_on_the_way_back made broken rest c g = record {
       requests = made;
       grew = g;
-      in_turn = undone_in_turn made rest c;
-      old_or_new = λ packet. each_undone (length made) (verdict_at packet (rules_of before) made) (verdict_by packet old) (verdict_by packet new) (goes_and_returns packet made rest c);
+      in_turn = undone_in_turn made (Delete broken ∷ rest) c;
+      old_or_new = λ packet. each_undone (length made) (verdict_at packet (rules_of before) made) (verdict_by packet old) (verdict_by packet new)
+          (goes_and_returns packet made (Delete broken ∷ rest) c);
+      broken = broken;
+      rest = rest;
+      stopped = inr (length (beyond rule_kind old (take place new)), c ∙ undone-is);
     }

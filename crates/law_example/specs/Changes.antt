@@ -1,7 +1,7 @@
 -- What a change of tables is, seen from outside: by what it asks of the kernel, and by what each packet meets on the way.
-use Rattle.std.specs.Prelude.{◌≡◌, ◌⊎◌, ◌≤◌, ◌++◌, ℕ, List, length, take}
+use Rattle.std.specs.Prelude.{◌≡◌, ◌⊎◌, ◌≤◌, ◌++◌, ◌∷◌, ℕ, List, length, take}
 use Rattle.rule_law.specs.Rules.{Stands, GiversAreAlike}
-use Rattle.rule_law.specs.Plans.{Request, AreOldAndNew, after, GoesOver, GoesOverAndBack, AskInTurn}
+use Rattle.rule_law.specs.Plans.{Request, Delete, AreOldAndNew, beyond, plan, undone, after, GoesOver, GoesOverAndBack, AskInTurn}
 use Rattle.law_example.specs.Rules.{gives}
 use Rattle.law_example.specs.Kinds.{rule_kind}
 use Rattle.law_example.specs.Kernels.{rules_of, verdict_by}
@@ -25,7 +25,8 @@ pub record MovesOver (old new : List Rule) (before behind : List (Request Rule))
   pub requests : List (Request Rule)
   pub grew : behind ≡ before ++ requests
   pub in_turn : AskInTurn rule_kind requests (rules_of before)
-  pub one_switch : (packet : Packet) → GoesOver (length requests) (verdict_at packet (rules_of before) requests) (verdict_by packet old) (verdict_by packet new)
+  pub one_switch : (packet : Packet)
+      → GoesOver (length requests) (verdict_at packet (rules_of before) requests) (verdict_by packet old) (verdict_by packet new)
   pub ends : Stands rule_kind (rules_of behind) new
 
 -- The same, but in the end the very rules from before are back, and each packet has gone over and back at most once.
@@ -33,16 +34,23 @@ pub record ComesBack (old new : List Rule) (before behind : List (Request Rule))
   pub requests : List (Request Rule)
   pub grew : behind ≡ before ++ requests
   pub in_turn : AskInTurn rule_kind requests (rules_of before)
-  pub over_and_back : (packet : Packet) → GoesOverAndBack (length requests) (verdict_at packet (rules_of before) requests) (verdict_by packet old) (verdict_by packet new)
+  pub over_and_back : (packet : Packet)
+      → GoesOverAndBack (length requests) (verdict_at packet (rules_of before) requests) (verdict_by packet old) (verdict_by packet new)
   pub as_before : rules_of behind ≡ rules_of before
 
--- The kernel has stopped on the way. At each moment, the last one too, each packet has gone by the old table or the new one.
+-- The kernel has stopped before a deletion, of the plan or of an undoing. At each moment, the last one too, each packet
+-- has gone by the old table or the new one.
 pub record StopsBetween (old new : List Rule) (before behind : List (Request Rule)) : Type 0 where
   pub requests : List (Request Rule)
   pub grew : behind ≡ before ++ requests
   pub in_turn : AskInTurn rule_kind requests (rules_of before)
   pub old_or_new : (packet : Packet) (i : ℕ) → i ≤ length requests
-      → (verdict_at packet (rules_of before) requests i ≡ verdict_by packet old) ⊎ (verdict_at packet (rules_of before) requests i ≡ verdict_by packet new)
+      → (verdict_at packet (rules_of before) requests i ≡ verdict_by packet old)
+      ⊎ (verdict_at packet (rules_of before) requests i ≡ verdict_by packet new)
+  pub broken : Rule
+  pub rest : List (Request Rule)
+  pub stopped : (requests ++ Delete broken ∷ rest ≡ plan rule_kind old new)
+      ⊎ ((j : ℕ) × (requests ++ Delete broken ∷ rest ≡ undone (take j (beyond rule_kind old new))))
 
 -- These requests have been carried out but for the rest of them.
 pub record IsPartly (requests rest before behind : List (Request Rule)) : Type 0 where

@@ -1,5 +1,5 @@
 // A change from one table to another.
-ghost use Rattle.std.specs.Prelude.{◌≡◌, ◌++◌, ◌∷◌, [], ◌≤◌, List, length, map, reverse, take, IfErr, OnOk, OnErr};
+ghost use Rattle.std.specs.Prelude.{◌≡◌, ◌++◌, ◌∷◌, [], ◌≤◌, false, List, length, map, reverse, take, IfErr, OnOk, OnErr};
 ghost use Rattle.rule_law.specs.Rules.{Stands, has};
 ghost use Rattle.rule_law.specs.Plans.{Request, Add, Delete, beyond};
 ghost use Rattle.law_example.specs.Kinds.{rule_kind};
@@ -73,8 +73,8 @@ fn add_if_missing(kernel: &mut Kernel, old: &[Rule], rule: &Rule) -> Result<(), 
 // Deletes those of the rules that the others lack, the last first.
 fn delete_missing(kernel: &mut Kernel, rules: &[Rule], others: &[Rule]) -> Result<(), AllocError>
     ensures ok { OnOk result (kernel.new ≡ kernel.old ++ map Delete (reverse (beyond rule_kind others.now rules.now))) }
-    ensures err { OnErr result ((rest : List (Request Rule))
-        × IsPartly (map Delete (reverse (beyond rule_kind others.now rules.now))) rest kernel.old kernel.new) }
+    ensures err { OnErr result ((broken : Rule) × (rest : List (Request Rule))
+        × IsPartly (map Delete (reverse (beyond rule_kind others.now rules.now))) (Delete broken ∷ rest) kernel.old kernel.new) }
 {
     for rule in rules.iter().rev() {
         delete_if_missing(kernel, rule, others)?;
@@ -85,6 +85,7 @@ fn delete_missing(kernel: &mut Kernel, rules: &[Rule], others: &[Rule]) -> Resul
 fn delete_if_missing(kernel: &mut Kernel, rule: &Rule, others: &[Rule]) -> Result<(), AllocError>
     ensures ok { OnOk result (kernel.new ≡ kernel.old ++ map Delete (beyond rule_kind others.now (rule.now ∷ []))) }
     ensures err { OnErr result (kernel.new ≡ kernel.old) }
+    ensures missing { OnErr result (has rule_kind others.now rule.now ≡ false) }
 {
     if is_in(others, rule) {
         return Ok(());

@@ -41,7 +41,7 @@ absent_still k q (p ∷ ps) apart one all = (
   absent_still k q ps apart.1 (λ a. (one a).1) all.1,
 )
 
-rules_ready : (qs : List Request) (ready : Option ℕ) → AllByRecursion (λ q. is_route q ≡ false) qs → ReadyFor qs ready
+pub rules_ready : (qs : List Request) (ready : Option ℕ) → AllByRecursion (λ q. is_route q ≡ false) qs → ReadyFor qs ready
 rules_ready [] ready rules = tt
 rules_ready (req.Rule family rule ∷ qs) ready rules = rules.1
 rules_ready (req.Route n route ∷ qs) ready rules = absurd (false≢true (sym rules.0))

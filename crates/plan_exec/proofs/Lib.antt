@@ -2,3 +2,4 @@ mod Turns
 mod Carrying
 mod Forms
 mod Causes
+mod Switching

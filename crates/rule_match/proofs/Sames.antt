@@ -1,14 +1,13 @@
 -- The tests of equality are true exactly where two values are equal.
-use Rattle.std.proofs.Common.{◌≡◌, ◌↔◌, ℕ, ◌==◌, ◌&&◌, Bool, true, false, Option, refl, sym, ◌∙◌, ap}
+use Rattle.std.proofs.Common.{◌≡◌, ℕ, ◌==◌, true, Option, refl, sym, ◌∙◌, ap}
 use Rattle.std.specs.Option.{option_eq}
 use Rattle.std.proofs.lemmas.Bool.{and_parts, and_from, eqb-true, false≢true}
 use Rattle.prefixes.specs.Addr.{same_addr}
 use Rattle.prefixes.proofs.Sames.{option_eq-true, option_eq-refl, eqb-refl, same_addr-true, same_addr-refl}
-use Rattle.prefixes.specs.declared.addr.Addr.{Addr}
 use Rattle.uid_ranges.specs.Range.{same_range}
 use Rattle.uid_ranges.proofs.Same.{same_range-true, same_range-self}
 use Rattle.uid_ranges.specs.declared.range.UidRange.{UidRange}
-use Rattle.rule_match.specs.Rule.{selects_link, selects_uid, matches, same_action, same_selectors, same_rule, AreSelectorsEqual}
+use Rattle.rule_match.specs.Rule.{matches, same_action, same_selectors, same_rule, AreSelectorsEqual}
 use Rattle.rule_match.specs.Verdict.{same_verdict}
 use Rattle.rule_match.specs.declared.packet.Packet.{Packet}
 use Rattle.rule_match.specs.declared.rule.Action.{Action}

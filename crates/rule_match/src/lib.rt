@@ -10,3 +10,6 @@ pub use packet::Packet;
 pub use rule::{Action, Rule};
 pub use same::{same_action, same_rule, same_selectors, same_verdict};
 pub use verdict::Verdict;
+
+#[cfg(test)]
+mod tests;

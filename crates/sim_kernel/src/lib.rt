@@ -5,5 +5,7 @@ mod lists;
 mod numbered;
 mod sim;
 mod tables;
+#[cfg(test)]
+mod tests;
 
 pub use sim::SimKernel;

@@ -1,4 +1,4 @@
-use Rattle.std.proofs.Common.{◌++◌, ◌∙◌, ap, append_assoc, map, reverse, take}
+use Rattle.std.proofs.Common.{◌∷◌, ◌++◌, ◌∙◌, ap, append_assoc, map, reverse, take}
 use Rattle.rule_law.specs.Plans.{Add, Delete, beyond}
 use Rattle.law_example.specs.Kinds.{rule_kind}
 use Rattle.law_example.proofs.Changing.{moves_over, comes_back, stops_on_the_way, stops_on_the_way_back}
@@ -15,9 +15,9 @@ returns-in-Err-delete_missing-clause-broken c =
     let partly : _ = c.in-Err-delete_missing.ensures.err in
     let adds : _ = map Add (beyond rule_kind c.args.old.now c.args.new.now) in λ _.
     stops_on_the_way c.args.old.now c.args.new.now c.args.kernel.now c.delete_missing.new.kernel c.requires.tables c.requires.stands
-    (adds ++ partly.1.made) partly.0
-    (append_assoc adds partly.1.made partly.0 ∙ ap (λ h. adds ++ h) partly.1.split)
-    (partly.1.grew ∙ (ap (λ h. h ++ partly.1.made) c.in-Ok.ensures.ok ∙ append_assoc c.args.kernel.now adds partly.1.made))
+    (adds ++ partly.2.made) partly.0 partly.1
+    (append_assoc adds partly.2.made (Delete partly.0 ∷ partly.1) ∙ ap (λ h. adds ++ h) partly.2.split)
+    (partly.2.grew ∙ (ap (λ h. h ++ partly.2.made) c.in-Ok.ensures.ok ∙ append_assoc c.args.kernel.now adds partly.2.made))
 
 pub returns-in-Ok-delete_missing-2-clause-refused : goal.returns-in-Ok-delete_missing-2-clause-refused
 returns-in-Ok-delete_missing-2-clause-refused c =
@@ -31,6 +31,6 @@ returns-in-Err-delete_missing-2-clause-broken c =
     let partly : _ = c.in-Err-delete_missing-2.ensures.err in
     let adds : _ = map Add (beyond rule_kind c.args.old.now (take c.in-Err.place c.args.new.now)) in λ _.
     stops_on_the_way_back c.args.old.now c.args.new.now c.args.kernel.now c.delete_missing-in-Err.new.kernel c.requires.tables c.requires.stands c.in-Err.place
-    (adds ++ partly.1.made) partly.0
-    (append_assoc adds partly.1.made partly.0 ∙ ap (λ h. adds ++ h) partly.1.split)
-    (partly.1.grew ∙ (ap (λ h. h ++ partly.1.made) c.in-Err.ensures.err ∙ append_assoc c.args.kernel.now adds partly.1.made))
+    (adds ++ partly.2.made) partly.0 partly.1
+    (append_assoc adds partly.2.made (Delete partly.0 ∷ partly.1) ∙ ap (λ h. adds ++ h) partly.2.split)
+    (partly.2.grew ∙ (ap (λ h. h ++ partly.2.made) c.in-Err.ensures.err ∙ append_assoc c.args.kernel.now adds partly.2.made))

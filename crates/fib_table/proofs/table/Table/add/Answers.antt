@@ -1,4 +1,4 @@
-use Rattle.std.proofs.Common.{sym, ap, ◌∙◌}
+use Rattle.std.proofs.Common.{ap, ◌∙◌}
 use Rattle.fib_table.specs.Table.{TableView, has_key, are_keys_distinct}
 use Rattle.fib_table.proofs.Keys.{are_keys_distinct-push}
 use Rattle.fib_table.proofs.table.Table.add.Goals as goal
