@@ -1,9 +1,12 @@
 -- A kernel that stands for a state sends every packet where the policy says.
-use Rattle.std.proofs.Common.{◌≡◌, ◌≢◌, ◌&&◌, ◌∷◌, [], Bool, true, false, None, Some, Option, unwrap_or, refl, sym, ◌∙◌, ap, map, inl, inr, arith}
+use Rattle.std.proofs.Common.{◌≡◌, ◌≢◌, ◌==◌, ◌&&◌, not, ◌∷◌, [], Bool, true, false, None, Some, Option, unwrap_or, refl, sym, ◌∙◌, ap, map, inl, inr, arith}
 use Rattle.std.specs.Prelude.{if◌then◌else◌, IsNone}
 use Rattle.std.specs.Option.{option_map}
 use Rattle.std.proofs.lemmas.Bool.{cases_Bool, eq-eqb, false≢true}
+use Rattle.fwmark.specs.Mark.{net_of, is_explicit, is_protected}
 use Rattle.prefixes.specs.Addr.{family_of}
+use Rattle.prefixes.specs.declared.addr.Family.{Family}
+use Rattle.prefixes.specs.declared.addr.Family.TheVariants as family
 use Rattle.prefixes.specs.Best.{answer}
 use Rattle.rule_law.specs.Rules as law
 use Rattle.rule_law.proofs.Statements.{stands_walks}
@@ -13,11 +16,11 @@ use Rattle.rule_match.specs.declared.verdict.Verdict.{Verdict}
 use Rattle.rule_match.specs.declared.verdict.Verdict.TheVariants as verdict
 use Rattle.kernel_model.specs.Kind.{rule_kind}
 use Rattle.kernel_model.specs.Stands.{Stands}
-use Rattle.kernel_model.specs.State.{KernelState, rules_of, routes_of, own_rule}
+use Rattle.kernel_model.specs.State.{KernelState, rules_of, routes_of, own_rule, loopback, start as kernel_start}
 use Rattle.kernel_model.specs.Walk.{rule_gives, verdict_by, walk}
-use Rattle.policy_state.specs.View.{StateView, IsGood}
+use Rattle.policy_state.specs.View.{StateView, IsGood, start}
 use Rattle.policy_state.specs.Table.{levels, rule_table, route_list}
-use Rattle.policy_meaning.specs.Policy.{first_answer, is_loopback, may_use_lo, local_routes, policy}
+use Rattle.policy_meaning.specs.Policy.{first_answer, is_loopback, may_use_lo, local_id, local_routes, policy}
 use Rattle.policy_meaning.proofs.Givers.{with_own-rises, with_own-givers}
 use Rattle.policy_meaning.proofs.Loopback.{own-gives}
 use Rattle.policy_meaning.proofs.Answers.{given-one, selects_all, only_if, walk-append, walk-levels, says, level-says}
@@ -45,12 +48,12 @@ as_policy s p = elim (cases_Bool (is_made p)) [
     plain true = refl
     plain false = refl
 
-module _ (s : StateView) (k : KernelState) (p : Packet) (good : IsGood s) (stands : Stands k (rule_table s) (route_list s)) where
-  own-says : rule_gives k.tables p own_rule ≡ to_device p
-  own-says =
-      ap (λ b. only_if (option_map (verdict_by 255) (answer (routes_of 255 k.tables) p.dest p.outgoing)) (b && true)) (selects_all p.mark)
-      ∙ (ap (λ routes. option_map (verdict_by 255) (answer routes p.dest p.outgoing)) stands.own_table ∙ own-gives p.dest p.outgoing)
+own-says : (k : KernelState) (p : Packet) → routes_of 255 k.tables ≡ loopback → rule_gives k.tables p own_rule ≡ to_device p
+own-says k p own_table =
+    ap (λ b. only_if (option_map (verdict_by 255) (answer (routes_of 255 k.tables) p.dest p.outgoing)) (b && true)) (selects_all p.mark)
+    ∙ (ap (λ routes. option_map (verdict_by 255) (answer routes p.dest p.outgoing)) own_table ∙ own-gives p.dest p.outgoing)
 
+module _ (s : StateView) (k : KernelState) (p : Packet) (good : IsGood s) (stands : Stands k (rule_table s) (route_list s)) where
   local : routes_of 97 k.tables ≡ local_routes s
   local = stands.in_table 97 (λ e. omega (arith, e))
 
@@ -59,5 +62,34 @@ module _ (s : StateView) (k : KernelState) (p : Packet) (good : IsGood s) (stand
       stands_walks rule_kind (rule_gives k.tables p) verdict.Unreachable (rules_of k (family_of p.dest)) (own_rule ∷ rule_table s)
       (with_own-rises s) (with_own-givers s k.tables p good) (stands.in_family (family_of p.dest))
       ∙ (walk-append (rule_gives k.tables p) verdict.Unreachable (own_rule ∷ []) (rule_table s)
-      ∙ (ap (λ o. unwrap_or o (law.walk (rule_gives k.tables p) verdict.Unreachable (rule_table s))) (given-one (rule_gives k.tables p) own_rule ∙ own-says)
+      ∙ (ap (λ o. unwrap_or o (law.walk (rule_gives k.tables p) verdict.Unreachable (rule_table s))) (given-one (rule_gives k.tables p) own_rule ∙ own-says k p stands.own_table)
       ∙ (ap (λ v. unwrap_or (to_device p) v) (walk-levels (rule_gives k.tables p) s (says s p) (level-says s k.tables p local) levels) ∙ as_policy s p)))
+
+-- the first state says nothing but what the kernel's own rule gives
+start_says : (p : Packet) → first_answer (map (says start p) levels) ≡ verdict.Unreachable
+start_says p = plain (is_made p) (is_protected p.mark) (is_made p && (is_explicit p.mark && net_of p.mark == local_id)) (is_explicit p.mark)
+  where
+    plain : (a b c d : Bool) → first_answer ((if a && (not b && false) then Some verdict.Prohibited else None) ∷ (if c then None else None) ∷ (if d then None else None) ∷ Some verdict.Unreachable ∷ []) ≡ verdict.Unreachable
+    plain true true true true = refl
+    plain true true true false = refl
+    plain true true false true = refl
+    plain true true false false = refl
+    plain true false true true = refl
+    plain true false true false = refl
+    plain true false false true = refl
+    plain true false false false = refl
+    plain false b true true = refl
+    plain false b true false = refl
+    plain false b false true = refl
+    plain false b false false = refl
+
+own_alone : (f : Family) → rules_of kernel_start f ≡ own_rule ∷ []
+own_alone family.V4 = refl
+own_alone family.V6 = refl
+
+pub own_rule_means_start : (p : Packet) → walk kernel_start p ≡ policy start p
+own_rule_means_start p =
+    ap (λ rules. law.walk (rule_gives kernel_start.tables p) verdict.Unreachable rules) (own_alone (family_of p.dest))
+    ∙ (walk-append (rule_gives kernel_start.tables p) verdict.Unreachable (own_rule ∷ []) []
+    ∙ (ap (λ o. unwrap_or o verdict.Unreachable) (given-one (rule_gives kernel_start.tables p) own_rule ∙ own-says kernel_start p refl)
+    ∙ (ap (unwrap_or (to_device p)) (sym (start_says p)) ∙ as_policy start p)))

@@ -1,12 +1,12 @@
 //! Laws: the contract of each function here is its statement, and its body is empty.
 ghost use Rattle.std.specs.Prelude.{◌≡◌, ◌≢◌};
-ghost use Rattle.kernel_model.specs.State.{KernelState};
+ghost use Rattle.kernel_model.specs.State.{KernelState, start as kernel_start};
 ghost use Rattle.kernel_model.specs.Stands.{Stands};
 ghost use Rattle.kernel_model.specs.Walk.{walk};
 ghost use Rattle.policy_meaning.specs.Policy.{IsBarred, policy};
 ghost use Rattle.policy_meaning.specs.Promise.{StaysIn};
 ghost use Rattle.policy_state.specs.Table.{rule_table, route_list};
-ghost use Rattle.policy_state.specs.View.{StateView, IsGood};
+ghost use Rattle.policy_state.specs.View.{StateView, IsGood, start};
 ghost use Rattle.rule_match.specs.declared.packet.Packet.{Packet};
 
 /// The table means the policy: a kernel that stands for a good state sends every packet where the policy says.
@@ -19,4 +19,9 @@ pub fn table_means_policy()
 /// Lockdown's promise: what a user other than root sends unprotected while it is locked down leaves by no link.
 pub fn barred_stays_in()
     ensures { (s : StateView) (p : Packet) → IsBarred s p → p.uid.number ≢ 0 → StaysIn (policy s p) }
+{}
+
+/// The starting kernel, which has its own rule alone, sends every packet where the first state's policy says.
+pub fn own_rule_means_start()
+    ensures { (p : Packet) → walk kernel_start p ≡ policy start p }
 {}

@@ -5,7 +5,7 @@ mod decision;
 mod laws;
 
 pub use decision::decide;
-pub use laws::{barred_stays_in, table_means_policy};
+pub use laws::{barred_stays_in, own_rule_means_start, table_means_policy};
 
 #[cfg(test)]
 mod tests;

@@ -1,5 +1,5 @@
 -- What the rules of a state's levels show: the priority of their level, and equal selectors where one packet matches two.
-use Rattle.std.proofs.Common.{◌≡◌, ◌<◌, ◌∷◌, [], ◌||◌, ℕ, zero, suc, List, Bool, true, false, Some, refl, sym, ◌∙◌, ap, subst, inl, inr, map, slice_get, arith, ◌==◌}
+use Rattle.std.proofs.Common.{◌≡◌, ◌∷◌, [], ℕ, suc, List, Bool, true, Some, refl, sym, ◌∙◌, ap, subst, inl, inr, map, slice_get, arith, ◌==◌}
 use Rattle.std.specs.Prelude.{◌&&◌, flat_map, bit_and, if◌then◌else◌}
 use Rattle.std.specs.List.{list_any}
 use Rattle.std.proofs.lemmas.Bool.{cases_Bool, cases_lt, false≢true, and_parts}

@@ -4,3 +4,4 @@ pub mod Rows
 pub mod Levels
 pub mod Tables
 pub mod Asking
+pub mod Starting

@@ -3,12 +3,12 @@ use Rattle.std.specs.Prelude.{◌≡◌, ℕ, List, [], None}
 use Rattle.prefixes.specs.declared.route.Route.{Route}
 use Rattle.kernel_model.specs.PlanView.{PlanView}
 use Rattle.kernel_model.specs.Stands.{Stands}
-use Rattle.kernel_model.specs.State.{KernelState}
+use Rattle.kernel_model.specs.State.{KernelState, start as kernel_start}
 use Rattle.kernel_model.specs.Switch.{additions, deletions, switched}
 use Rattle.kernel_model.specs.declared.request.Request.{Request}
 use Rattle.policy_state.specs.Step.{refusal}
 use Rattle.policy_state.specs.Table.{rule_table, route_list}
-use Rattle.policy_state.specs.View.{StateView, IsGood}
+use Rattle.policy_state.specs.View.{StateView, IsGood, start}
 use Rattle.policy_state.specs.declared.command.Command.{Command}
 
 -- the routes of the links that leave a network: none, as no state has a route
@@ -29,6 +29,10 @@ asked old new = record { adds = asked_adds old new; deletes = asked_deletes old 
 -- the kernel when all of this is done
 abbrev pub carried : KernelState → StateView → StateView → KernelState
 carried k old new = switched k (rule_table old) (rule_table new) (routes_gone old new)
+
+-- the starting kernel when it has been asked for the rules of the first state
+abbrev pub started : KernelState
+started = switched kernel_start [] (rule_table start) []
 
 -- The kernel stands for the state, and the state accepts the command.
 pub record MayStep (k : KernelState) (s : StateView) (command : Command) : Type 0 where

@@ -5,17 +5,17 @@ ghost use Rattle.std.specs.List.{AllByRecursion};
 ghost use Rattle.kernel_model.specs.Journal.{entry, replay_from};
 ghost use Rattle.kernel_model.specs.Segment.{done, undone, IsSegment};
 ghost use Rattle.kernel_model.specs.Stands.{Stands};
-ghost use Rattle.kernel_model.specs.State.{KernelState, is_absent, is_present, is_route};
-ghost use Rattle.kernel_model.specs.Switch.{IsSwitch, GiveAlike, walk_along};
+ghost use Rattle.kernel_model.specs.State.{KernelState, start as kernel_start, is_absent, is_present, is_route};
+ghost use Rattle.kernel_model.specs.Switch.{twins, additions, deletions, IsSwitch, GiveAlike, walk_along};
 ghost use Rattle.kernel_model.specs.Walk.{walk};
 ghost use Rattle.kernel_model.specs.declared.request.Entry.{Entry};
 ghost use Rattle.kernel_model.specs.declared.request.EntryKind.TheVariants.{Deleted, Broken};
 ghost use Rattle.kernel_model.specs.declared.request.Request.{Request};
 ghost use Rattle.policy_state.specs.Step.{changed};
-ghost use Rattle.policy_state.specs.Table.{rule_table, route_list};
-ghost use Rattle.policy_state.specs.View.{StateView, IsGood};
+ghost use Rattle.policy_state.specs.Table.{rule_table, start_rules, route_list};
+ghost use Rattle.policy_state.specs.View.{StateView, IsGood, start};
 ghost use Rattle.policy_state.specs.declared.command.Command.{Command};
-ghost use Rattle.rule_compile.specs.Asked.{asked_adds, asked_deletes, carried, routes_gone, MayStep};
+ghost use Rattle.rule_compile.specs.Asked.{asked_adds, asked_deletes, carried, started, routes_gone, MayStep};
 ghost use Rattle.rule_compile.specs.Distinct.{Distinct};
 ghost use Rattle.rule_law.specs.Plans.{GoesOver, GoesOverAndBack};
 ghost use Rattle.rule_match.specs.declared.packet.Packet.{Packet};
@@ -70,5 +70,19 @@ pub fn plan_ends()
     ensures undone { (k : KernelState) (s : StateView) (command : Command) (i : ℕ) (refused : Request) → MayStep k s command
         → replay_from k (undone (asked_adds s (changed s command)) i refused) ≡ k }
 {
+    ends();
+}
+
+/// The start: a kernel that has its own rule alone is brought to the rules of the first state, and nothing is deleted.
+pub fn start_law()
+    ensures asked { additions [] (rule_table start) ≡ twins start_rules }
+    ensures deletes { deletions [] (rule_table start) [] ≡ [] }
+    ensures absent { AllByRecursion (λ q. is_absent kernel_start q ≡ true) (twins start_rules) }
+    ensures distinct { Distinct (twins start_rules) }
+    ensures segment { (packet : Packet) (entries : List Entry) → IsSegment (twins start_rules) [] entries
+        → GoesOverAndBack (length entries) (walk_along kernel_start packet entries) (walk kernel_start packet) (walk started packet) }
+    ensures stands { Stands started (rule_table start) (route_list start) }
+{
+    goes_over_and_back();
     ends();
 }

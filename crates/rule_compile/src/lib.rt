@@ -8,7 +8,7 @@ mod requests;
 mod start;
 mod table;
 
-pub use laws::{plan_ends, plan_law, requests_can_be_asked, tables_are_lawful};
+pub use laws::{plan_ends, plan_law, requests_can_be_asked, start_law, tables_are_lawful};
 pub use requests::plan;
 pub use start::start_plan;
 pub use table::{rule_count, rules};
