@@ -1,5 +1,5 @@
 -- How long the text of a verdict is.
-use Rattle.std.proofs.Common.{◌≡◌, ℕ, ◌+◌, ◌<◌, ◌≤◌, ◌^◌, ◌==◌, Bool, true, false, cond, List, ◌++◌, codes, length, Option, None, Some, Result, Ok, Err, IsOk, vec_len, vec_capacity, refl, arith, length-append}
+use Rattle.std.proofs.Common.{ℕ, ◌+◌, ◌<◌, ◌≤◌, ◌^◌, ◌==◌, Bool, true, false, cond, List, ◌++◌, codes, length, Option, None, Some, Result, Ok, Err, IsOk, vec_len, vec_capacity, refl, arith, length-append}
 use Rattle.std.specs.Fmt.{decimal}
 use Rattle.std.specs.declared.alloc.Global.{Global}
 use Rattle.std.specs.declared.vec.Vec.{Vec}

@@ -11,3 +11,6 @@ pub use rule::write_rule;
 pub use rules::write_rules;
 pub use trail::write_trail;
 pub use verdict::write_verdict;
+
+#[cfg(test)]
+mod tests;

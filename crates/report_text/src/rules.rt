@@ -33,7 +33,8 @@ fn write_lines<K: Kernel>(
     family: Family,
     out: &mut Vec<u8>,
 ) -> Result<(), AllocError>
-    ensures { Appends out.old out.new result (flat_map (rule_line state.now) (rules_of (state_of (K.seen kernel.now)) family)) }
+    ensures { Appends out.old out.new result
+        (flat_map (rule_line state.now) (rules_of (state_of (K.seen kernel.now)) family)) }
 {
     for place in 0..kernel.rule_count(family) {
         let rule = rule_at(kernel, family, place);
@@ -49,7 +50,8 @@ pub fn write_rules<K: Kernel>(
     family: Family,
     out: &mut Vec<u8>,
 ) -> Result<(), AllocError>
-    ensures { Appends out.old out.new result (rules_text state.now (rules_of (state_of (K.seen kernel.now)) family)) }
+    ensures { Appends out.old out.new result
+        (rules_text state.now (rules_of (state_of (K.seen kernel.now)) family)) }
 {
     write_decimal(kernel.rule_count(family), out)?;
     append_bytes(b" rules\n", out)?;

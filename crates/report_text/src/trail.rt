@@ -31,7 +31,8 @@ pub fn write_number(number: u32, out: &mut Vec<u8>) -> Result<(), AllocError>
     write_decimal(u64::from(number), out)
 }
 
-fn write_step(step: Step, out: &mut Vec<u8>) -> Result<(), AllocError>
+/// Appends the line of a step.
+pub fn write_step(step: Step, out: &mut Vec<u8>) -> Result<(), AllocError>
     ensures { Appends out.old out.new result (step_text step) }
 {
     append_bytes(b"  ", out)?;

@@ -1,10 +1,10 @@
 -- From one word of a form to the next.
-use Rattle.std.proofs.Common.{◌≡◌, ℕ, ◌+◌, List, [], ◌∷◌, map, Result, Ok, Err, inl, inr, sym, ap, subst, ◌∙◌, ◌⊎◌, refl}
+use Rattle.std.proofs.Common.{◌≡◌, ℕ, List, [], ◌∷◌, inl, inr, sym, subst}
 use Rattle.script_reader.specs.declared.fault.LineFault.{LineFault}
 use Rattle.script_reader.specs.declared.fault.LineFault.TheVariants.{Bad, Memory}
 use Rattle.script_reader.specs.declared.words.Words.{Words}
-use Rattle.script_reader.specs.Cursor.{Ends, Faults, FaultsAt, Misses, Steps, Stops, Takes, end_of, words_left}
-use Rattle.script_reader.specs.Grammar.{Kind, Piece, ValueOf, AreSpelled, IsSpelled}
+use Rattle.script_reader.specs.Cursor.{Faults, FaultsAt, Misses, Stops, Takes, end_of, words_left}
+use Rattle.script_reader.specs.Grammar.{Kind, Piece, ValueOf, AreSpelled}
 use Rattle.script_reader.specs.Words.{Word, texts}
 
 -- no words are left where none are to come

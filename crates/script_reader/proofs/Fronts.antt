@@ -1,12 +1,12 @@
 -- Words that begin a line of a form.
-use Rattle.std.proofs.Common.{◌≡◌, ◌⊎◌, ℕ, ◌+◌, ◌<◌, ◌≤◌, ◌==◌, ◌||◌, Bool, true, false, suc, cond, List, [], ◌∷◌, ◌++◌, length, map, refl, sym, ap, ◌∙◌, subst, inl, inr, arith}
+use Rattle.std.proofs.Common.{◌≡◌, ℕ, ◌+◌, ◌<◌, ◌≤◌, ◌||◌, Bool, true, false, suc, cond, List, [], ◌∷◌, ◌++◌, length, refl, ap, subst, inl, inr, arith}
 use Rattle.std.specs.Fmt.{decimal}
 use Rattle.addr_text.specs.Canonical.{canonical}
 use Rattle.addr_text.proofs.Written.{canonical_spelled}
 use Rattle.prefixes.specs.declared.addr.Addr.TheVariants as address
 use Rattle.uid_ranges.specs.declared.range.Uid.{Uid}
 use Rattle.script_reader.specs.Cursor.{Stops}
-use Rattle.script_reader.specs.Grammar.{Kind, Piece, ValueOf, AreSpelled, IsSpelled, literal, uid, range, mark, addr}
+use Rattle.script_reader.specs.Grammar.{Kind, ValueOf, AreSpelled, IsSpelled, literal, uid, range, mark, addr}
 use Rattle.script_reader.specs.Words.{Word, texts, word_at, words_from, is_space, is_no_space}
 use Rattle.script_reader.proofs.FormTable.{Values, pieces_with}
 use Rattle.script_reader.specs.Canonical.{mark_text, range_text}

@@ -1,5 +1,5 @@
 -- What spells a word has bytes that are printed and are no space.
-use Rattle.std.proofs.Common.{◌≡◌, ◌⊎◌, ℕ, ◌+◌, ◌<◌, ◌≤◌, ◌==◌, ◌&&◌, Bool, true, false, not, List, [], ◌∷◌, ◌++◌, length, nat_le, nat_lt, refl, sym, ap, ◌∙◌, subst, inl, inr, arith}
+use Rattle.std.proofs.Common.{◌≡◌, ℕ, ◌<◌, ◌≤◌, ◌&&◌, Bool, true, List, [], ◌∷◌, ◌++◌, length, nat_le, nat_lt, refl, sym, ap, ◌∙◌, subst, inl, inr, arith}
 use Rattle.std.proofs.lemmas.Bool.Decides.{nat_tests}
 use Rattle.std.proofs.lemmas.List.Folds.{list_all-append}
 use Rattle.std.specs.Char.{digit_value}
@@ -69,7 +69,7 @@ row_graphic One byte plain each text (x ∷ []) row = each text x row
 row_graphic One byte plain each text (x ∷ y ∷ xs) row =
     ap (list_all is_graphic) row.2
     ∙ all_join row.0 (byte ∷ row.1) (each row.0 x row.3)
-      (both (is_graphic byte) (list_all is_graphic row.1) plain (row_graphic One byte plain each row.1 (y ∷ xs) row.4))
+    (both (is_graphic byte) (list_all is_graphic row.1) plain (row_graphic One byte plain each row.1 (y ∷ xs) row.4))
 
 octet_graphic : (text : List ℕ) (value : ℕ) → SpellsOctet text value → list_all is_graphic text ≡ true
 octet_graphic text value spelled = digits_graphic 10 text (omega arith) spelled.0.numeral.1
@@ -103,12 +103,12 @@ short_graphic text groups spelled =
 
 v6_graphic : (text : List ℕ) (value : ℕ) → SpellsV6 text value → IsGraphic text
 v6_graphic text value spelled = elim spelled.form [
-      inl full ↦ record {
-        all = row_graphic SpellsGroup colon refl group_graphic text spelled.groups full.1;
-        some = row_some SpellsGroup colon text spelled.groups (omega (arith, full.0)) full.1;
-      }
-    | inr short ↦ short_graphic text spelled.groups short
-    ]
+  | inl full ↦ record {
+    all = row_graphic SpellsGroup colon refl group_graphic text spelled.groups full.1;
+    some = row_some SpellsGroup colon text spelled.groups (omega (arith, full.0)) full.1;
+  }
+  | inr short ↦ short_graphic text spelled.groups short
+]
 
 addr_graphic : (text : List ℕ) (value : Addr) → SpellsAddr text value → IsGraphic text
 addr_graphic text (address.V4 value) spelled = v4_graphic text value spelled

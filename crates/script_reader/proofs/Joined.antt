@@ -1,9 +1,9 @@
 -- Words with one space between each two.
-use Rattle.std.proofs.Common.{◌≡◌, ◌⊎◌, ℕ, ◌+◌, ◌<◌, ◌≤◌, ◌==◌, ◌&&◌, Bool, true, false, not, cond, suc, List, [], ◌∷◌, ◌++◌, length, map, take, refl, sym, ap, ◌∙◌, subst, inl, inr, arith}
+use Rattle.std.proofs.Common.{◌≡◌, ℕ, ◌+◌, ◌<◌, ◌==◌, ◌&&◌, Bool, true, false, not, cond, suc, List, [], ◌∷◌, ◌++◌, length, refl, sym, ap, ◌∙◌, subst, arith}
 use Rattle.std.proofs.lemmas.List.{append-nil}
 use Rattle.std.proofs.lemmas.List.Folds.{list_all-append}
 use Rattle.std.proofs.lemmas.List.Sums.{take_while-cons}
-use Rattle.std.specs.List.{join_with_byte, list_all, take_while}
+use Rattle.std.specs.List.{join_with_byte, list_all}
 use Rattle.script_reader.specs.Lines.{is_printable}
 use Rattle.script_reader.specs.Words.{Word, is_no_space, texts, word_at, words_from}
 use Rattle.script_reader.proofs.Graphic.{IsGraphic, graphic_no_space, graphic_printed, is_graphic}

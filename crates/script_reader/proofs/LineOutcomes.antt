@@ -1,8 +1,8 @@
 -- What reading a line gives.
-use Rattle.std.proofs.Common.{◌≡◌, ◌⊎◌, ◌↔◌, ℕ, ◌+◌, ◌<◌, ◌≤◌, ◌&&◌, Bool, true, false, zero, suc, List, [], ◌∷◌, ◌++◌, length, map, slice_get, slice_index, Option, None, Some, Result, Ok, Err, IfOk, IfErr, refl, sym, ap, ◌∙◌, subst, inl, inr, arith}
+use Rattle.std.proofs.Common.{◌≡◌, ◌⊎◌, ℕ, ◌+◌, ◌<◌, ◌≤◌, ◌&&◌, Bool, true, false, zero, suc, List, [], ◌∷◌, ◌++◌, length, slice_get, None, Some, Result, Ok, Err, IfOk, IfErr, refl, sym, ap, ◌∙◌, subst, inl, inr, arith}
 use Rattle.std.proofs.lemmas.List.{append-nil}
 use Rattle.std.specs.List.{AllByRecursion, list_all}
-use Rattle.script_reader.specs.BadLines.{Begins, HasBadByte, HasBadWord, IfBad, IsBadAt, IsTooLong, IsUnfinished}
+use Rattle.script_reader.specs.BadLines.{Begins, HasBadWord, IfBad, IsBadAt, IsUnfinished}
 use Rattle.script_reader.specs.Cursor.{Stops, end_of, words_left}
 use Rattle.script_reader.specs.Forms.{FitsFarthest, ReadsAny, StopsBy, kinds_of}
 use Rattle.script_reader.specs.Grammar.{AreSpelled}
@@ -30,9 +30,9 @@ stops_of cursor column farthest form = all_at (StopsBy cursor column) FORMS (pla
 said : (l : Line) (words : List (List ℕ)) → Says l words →
     IsBlank words ⊎ ((form : Form) × (values : Values (kinds_of form)) × AreSpelled (pieces_with (kinds_of form) values) words)
 said l words says = elim (parts_of l) [
-      inl blank ↦ inl (subst (λ (m : Line). Says m words) blank says)
-    | inr parts ↦ inr (parts.form, parts.values, (says_with parts.form parts.values words).0 (subst (λ (m : Line). Says m words) parts.same says))
-    ]
+  | inl blank ↦ inl (subst (λ (m : Line). Says m words) blank says)
+  | inr parts ↦ inr (parts.form, parts.values, (says_with parts.form parts.values words).0 (subst (λ (m : Line). Says m words) parts.same says))
+]
 
 -- the first words of a form begin a line
 front_begins : (form : Form) (words : List (List ℕ)) → Fronts (kinds_of form) words → Begins words

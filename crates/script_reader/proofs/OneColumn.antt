@@ -1,9 +1,9 @@
 -- A bad line goes wrong in one column.
-use Rattle.std.proofs.Common.{◌≡◌, ◌⊎◌, ℕ, ◌+◌, ◌<◌, ◌≤◌, ◌&&◌, Bool, true, false, List, [], ◌∷◌, ◌++◌, length, refl, sym, ap, ◌∙◌, subst, inl, inr, arith, append_assoc}
+use Rattle.std.proofs.Common.{◌≡◌, ℕ, ◌<◌, ◌≤◌, true, false, List, [], ◌∷◌, ◌++◌, length, refl, sym, ap, ◌∙◌, subst, inl, inr, arith, append_assoc}
 use Rattle.std.specs.List.{list_all}
 use Rattle.script_reader.specs.BadLines.{Begins, HasBadByte, HasBadWord, IsBadAt, IsTooLong, IsUnfinished}
 use Rattle.script_reader.specs.Lines.{IsText, Says, is_printable}
-use Rattle.script_reader.specs.Words.{Word, texts, words_of}
+use Rattle.script_reader.specs.Words.{Word, texts}
 use Rattle.script_reader.proofs.LineOutcomes.{not_all, texts_cut}
 use Rattle.script_reader.proofs.OneLine.{both_true}
 
@@ -20,7 +20,7 @@ first_bad (x ∷ before) behind [] behind' byte byte' e p b p' b' =
 first_bad (x ∷ before) behind (y ∷ before') behind' byte byte' e p b p' b' =
     let rest : before ++ byte ∷ behind ≡ before' ++ byte' ∷ behind' = cc in
     let same : length before ≡ length before' =
-          first_bad before behind before' behind' byte byte' rest (both_true (is_printable x) (list_all is_printable before) p).1 b (both_true (is_printable y) (list_all is_printable before') p').1 b' in
+    first_bad before behind before' behind' byte byte' rest (both_true (is_printable x) (list_all is_printable before) p).1 b (both_true (is_printable y) (list_all is_printable before') p').1 b' in
     omega arith
 
 -- what holds of words holds of the first ones of them
@@ -46,8 +46,8 @@ one_place Fact closed (x ∷ before) behind (y ∷ before') behind' word word' e
     let same : x ≡ y = cc in
     let rest : before ++ word ∷ behind ≡ before' ++ word' ∷ behind' = cc in
     one_place (λ words. Fact (x.text ∷ words)) (λ first others h. closed (x.text ∷ first) others h) before behind before' behind' word word' rest f n
-      (subst (λ (w : Word). Fact (w.text ∷ texts before')) (sym same) f')
-      (λ h. n' (subst (λ (w : Word). Fact (w.text ∷ texts (before' ++ word' ∷ []))) same h))
+    (subst (λ (w : Word). Fact (w.text ∷ texts before')) (sym same) f')
+    (λ h. n' (subst (λ (w : Word). Fact (w.text ∷ texts (before' ++ word' ∷ []))) same h))
 
 byte_and_text : (text : List ℕ) (a : ℕ) → HasBadByte text a → IsText text → ⊥
 byte_and_text text a byte is_text = not_all byte.before byte.byte byte.behind byte.bad (ap (list_all is_printable) (sym byte.cut) ∙ is_text.printable)
@@ -55,7 +55,7 @@ byte_and_text text a byte is_text = not_all byte.before byte.byte byte.behind by
 word_and_end : (text : List ℕ) (a b : ℕ) → HasBadWord text a → IsUnfinished text b → ⊥
 word_and_end text a b word short =
     word.ends (begins_closed (texts (word.before ++ word.word ∷ [])) (texts word.behind)
-      (subst Begins (ap texts word.cut ∙ texts_cut word.before word.word word.behind) short.begins))
+    (subst Begins (ap texts word.cut ∙ texts_cut word.before word.word word.behind) short.begins))
 
 long_and_short : (text : List ℕ) (a : ℕ) → IsTooLong text a → length text ≤ 512 → ⊥
 long_and_short text a long short = let over : 512 < length text = long.0 in omega arith
@@ -68,7 +68,7 @@ one_column text a b (inl long) (inr (inr (inr short))) = absurd (long_and_short 
 one_column text a b (inr (inl byte)) (inl long) = absurd (long_and_short text b long byte.short)
 one_column text a b (inr (inl byte)) (inr (inl byte')) =
     let same : length byte.before ≡ length byte'.before =
-          first_bad byte.before byte.behind byte'.before byte'.behind byte.byte byte'.byte (sym byte.cut ∙ byte'.cut) byte.printable byte.bad byte'.printable byte'.bad in
+    first_bad byte.before byte.behind byte'.before byte'.behind byte.byte byte'.byte (sym byte.cut ∙ byte'.cut) byte.printable byte.bad byte'.printable byte'.bad in
     omega (arith, byte.place, byte'.place)
 one_column text a b (inr (inl byte)) (inr (inr (inl word))) = absurd (byte_and_text text a byte word.is_text)
 one_column text a b (inr (inl byte)) (inr (inr (inr short))) = absurd (byte_and_text text a byte short.is_text)

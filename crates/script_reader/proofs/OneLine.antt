@@ -1,5 +1,5 @@
 -- A text spells one line.
-use Rattle.std.proofs.Common.{◌≡◌, ◌⊎◌, ℕ, ◌==◌, ◌&&◌, ◌||◌, Bool, true, false, not, zero, suc, List, [], ◌∷◌, length, slice_get, slice_index, Some, None, Option, refl, sym, ap, ◌∙◌, subst, inl, inr, eq-eqb}
+use Rattle.std.proofs.Common.{◌≡◌, ◌⊎◌, ℕ, ◌==◌, ◌&&◌, ◌||◌, Bool, true, false, not, zero, suc, List, [], ◌∷◌, slice_get, slice_index, Some, None, refl, sym, ap, ◌∙◌, subst, inl, inr, eq-eqb}
 use Rattle.std.proofs.lemmas.Bool.Decides.{eqb_tells}
 use Rattle.std.specs.Cmp.Lexicographic.{pointwise}
 use Rattle.std.specs.List.{list_all}
@@ -128,11 +128,11 @@ form_not_blank form values words spelled blank =
 one_form : (one other : Form) (a : Values (kinds_of one)) (b : Values (kinds_of other)) (words : List (List ℕ)) →
     AreSpelled (pieces_with (kinds_of one) a) words → AreSpelled (pieces_with (kinds_of other) b) words → line_with one a ≡ line_with other b
 one_form one other a b words p q = elim (eqb_tells (place_of one) (place_of other)) [
-      inl told ↦ (subst (λ (form : Form). (c : Values (kinds_of form)) → AreSpelled (pieces_with (kinds_of form) c) words → line_with one a ≡ line_with form c)
-          (same_form one other told.1)
-          (λ c r. ap (line_with one) (same_values (kinds_of one) a c words p r))) b q
-    | inr told ↦ absurd (apart-never (kinds_of one) (kinds_of other) a b words p q (differs (place_of one == place_of other) told.0 tested))
-    ]
+  | inl told ↦ (subst (λ (form : Form). (c : Values (kinds_of form)) → AreSpelled (pieces_with (kinds_of form) c) words → line_with one a ≡ line_with form c)
+      (same_form one other told.1)
+      (λ c r. ap (line_with one) (same_values (kinds_of one) a c words p r))) b q
+  | inr told ↦ absurd (apart-never (kinds_of one) (kinds_of other) a b words p q (differs (place_of one == place_of other) told.0 tested))
+]
   where
     tested : are_apart one other ≡ true
     tested = passes_at (λ form. are_apart one form) FORMS (place_of other) other

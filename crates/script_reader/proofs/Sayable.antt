@@ -1,13 +1,12 @@
 -- The canonical text of a line.
-use Rattle.std.proofs.Common.{◌≡◌, ◌⊎◌, ℕ, ◌≤◌, Bool, true, List, [], ◌∷◌, map, length, refl, sym, ap, ◌∙◌, subst, inl, inr, arith}
+use Rattle.std.proofs.Common.{◌≡◌, ◌⊎◌, ℕ, true, List, [], ◌∷◌, map, refl, sym, ap, ◌∙◌, subst, inl, inr}
 use Rattle.std.specs.List.{join_with_byte, list_all}
 use Rattle.addr_text.proofs.Written.{canonical_spelled}
 use Rattle.script_reader.specs.Canonical.{AreWithin, IsSayable, IsWithin, canonical, piece_text, value_text}
 use Rattle.script_reader.specs.Forms.{kinds_of}
 use Rattle.script_reader.specs.Grammar.{Kind, Piece, ValueOf, AreSpelled, IsSpelled, addr, literal, mark, range, uid}
-use Rattle.script_reader.specs.Lines.{IsText, Says, Spells, is_printable, pieces_of}
+use Rattle.script_reader.specs.Lines.{Says, Spells, is_printable, pieces_of}
 use Rattle.script_reader.specs.Words.{texts, words_of}
-use Rattle.script_reader.specs.declared.form.Form.{Form}
 use Rattle.script_reader.specs.declared.form.TheConstants.{FORMS}
 use Rattle.script_reader.specs.declared.line.Line.{Line}
 use Rattle.script_reader.specs.declared.line.Line.TheVariants as line

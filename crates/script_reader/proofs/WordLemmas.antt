@@ -1,10 +1,10 @@
 -- Going over the words of bytes from the left.
-use Rattle.std.proofs.Common.{◌≡◌, ◌≢◌, ℕ, ◌+◌, ◌<◌, ◌≤◌, ◌==◌, ◌||◌, zero, suc, Bool, true, false, not, List, [], ◌∷◌, length, drop, take, get_or, cond, sym, ◌∙◌, ap, refl, arith, add-zero, one-add, inl, inr, ◌-◌, ◌⊎◌, subst, length-drop}
+use Rattle.std.proofs.Common.{◌≡◌, ◌≢◌, ℕ, ◌+◌, ◌<◌, ◌==◌, suc, Bool, true, false, not, List, [], ◌∷◌, length, drop, take, get_or, cond, sym, ◌∙◌, ap, refl, arith, one-add, inl, inr, ◌-◌, subst, length-drop}
 use Rattle.std.proofs.lemmas.List.{drop-drop}
 use Rattle.std.proofs.Math.Seq.{take-length}
 use Rattle.std.proofs.lemmas.Bool.Decides.{eqb_tells}
 use Rattle.std.specs.List.{prefix_len}
-use Rattle.script_reader.specs.Words.{Word, space, is_space, is_no_space, word_at, words_from}
+use Rattle.script_reader.specs.Words.{Word, is_space, is_no_space, word_at, words_from}
 
 -- a space in front
 pub words_from-space : (column : ℕ) (in_word : Bool) (byte : ℕ) (bytes : List ℕ) → (byte == 32) ≡ true →

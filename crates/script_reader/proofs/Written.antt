@@ -1,5 +1,5 @@
 -- What is written of a value spells it.
-use Rattle.std.proofs.Common.{◌≡◌, ℕ, ◌<◌, ◌≤◌, ◌^◌, List, length, refl, arith}
+use Rattle.std.proofs.Common.{ℕ, ◌<◌, ◌^◌, refl, arith}
 use Rattle.std.specs.Fmt.{decimal}
 use Rattle.number_text.proofs.Spelled.{SpellsDecimal-decimal, SpellsHexadecimal-hexadecimal, length-digits-le}
 use Rattle.number_text.specs.Numbers.{hexadecimal}

@@ -1,5 +1,5 @@
 -- The lines of a script, and which texts spell them.
-use Rattle.std.specs.Prelude.{◌≡◌, ℕ, ◌≤◌, ◌&&◌, Bool, true, List, [], ◌∷◌, ◌++◌, length, codes, nat_le, slice_index}
+use Rattle.std.specs.Prelude.{◌≡◌, ℕ, ◌≤◌, ◌&&◌, Bool, true, List, [], ◌∷◌, length, codes, nat_le, slice_index}
 use Rattle.std.specs.List.{list_all}
 use Rattle.policy_state.specs.declared.command.Command.{Command}
 use Rattle.policy_state.specs.declared.command.Command.TheVariants as command

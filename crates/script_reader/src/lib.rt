@@ -18,3 +18,6 @@ pub use laws::{canonical_text, one_column, one_line};
 pub use line::{Line, ShowLine, TraceLine};
 pub use print::{print_line, write_mark, write_range, write_uid};
 pub use read::read_line;
+
+#[cfg(test)]
+mod tests;

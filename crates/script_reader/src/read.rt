@@ -21,7 +21,9 @@ fn is_printable(byte: u8) -> bool
 
 /// The column of the first byte that no line may have.
 fn bad_byte(text: &[u8]) -> Option<u32>
-    ensures { MatchOption result (IsText text.now) (λ column. IsTooLong text.now column ⊎ HasBadByte text.now column) }
+    ensures { MatchOption result
+        (IsText text.now)
+        (λ column. IsTooLong text.now column ⊎ HasBadByte text.now column) }
 {
     if text.len() > LINE_LIMIT {
         return Some(513);

@@ -49,7 +49,8 @@ pub fn read_range(word: &[u8]) -> Option<UidRange>
 /// The word's digits as a number of 32 bits.
 fn read_bits(digits: &[u8]) -> Option<u32>
     ensures some { IfSome result (SpellsHexadecimal digits.now) }
-    ensures none { IfNone result ((bits : ℕ) → bits < 2 ^ 32 → SpellsHexadecimal digits.now bits → ⊥) }
+    ensures none { IfNone result
+        ((bits : ℕ) → bits < 2 ^ 32 → SpellsHexadecimal digits.now bits → ⊥) }
 {
     Some(read_hexadecimal(digits, 0xffff_ffff)? as u32)
 }

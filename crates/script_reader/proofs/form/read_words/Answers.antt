@@ -1,5 +1,5 @@
 use Rattle.script_reader.specs.declared.form.Form.TheVariants as form
-use Rattle.script_reader.proofs.Farthest.{all_tried, one_more}
+use Rattle.script_reader.proofs.Farthest.{one_more}
 use Rattle.script_reader.proofs.form.read_words.Goals as goal
 
 pub loop-form-preserved : goal.loop-form-preserved

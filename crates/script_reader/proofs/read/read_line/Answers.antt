@@ -1,5 +1,4 @@
-use Rattle.std.proofs.Common.{◌≡◌, ◌+◌, List, IfErr, length, IsTrue, false}
-use Rattle.script_reader.specs.BadLines.{IfBad, IsBadAt}
+use Rattle.std.proofs.Common.{IsTrue, false}
 use Rattle.script_reader.specs.Cursor.{words_left}
 use Rattle.script_reader.specs.Lines.{IsBlank, IsText}
 use Rattle.script_reader.specs.Words.{texts}

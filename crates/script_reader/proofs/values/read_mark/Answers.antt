@@ -1,5 +1,5 @@
 use Rattle.std.proofs.Common.{◌≤◌, length, arith}
-use Rattle.script_reader.proofs.Marks.{long_mark, mark_gives, no_mark}
+use Rattle.script_reader.proofs.Marks.{mark_gives}
 use Rattle.script_reader.proofs.values.read_mark.Goals as goal
 
 pub returns : goal.returns

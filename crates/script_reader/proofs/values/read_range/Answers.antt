@@ -1,4 +1,4 @@
-use Rattle.script_reader.proofs.Ranges.{no_range, range_cut, range_gives}
+use Rattle.script_reader.proofs.Ranges.{range_cut, range_gives}
 use Rattle.script_reader.proofs.values.read_range.Goals as goal
 
 pub returns-in_err-read_uid : goal.returns-in_err-read_uid

@@ -1,5 +1,3 @@
-use Rattle.std.proofs.Common.{◌≡◌, ℕ, ◌+◌, drop, sym, ap, subst, ◌≢◌, get_or, false}
-use Rattle.script_reader.specs.Words.{words_from}
 use Rattle.script_reader.proofs.WordLemmas.{behind_spaces, no_space_first}
 use Rattle.script_reader.proofs.words.first_place.Goals as goal
 

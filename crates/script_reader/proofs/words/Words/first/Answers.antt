@@ -1,7 +1,7 @@
-use Rattle.std.proofs.Common.{◌≡◌, ◌+◌, ◌<◌, ℕ, List, length, sym, ap, ◌∙◌, arith}
+use Rattle.std.proofs.Common.{◌<◌, arith}
 use Rattle.std.specs.List.{prefix_len}
 use Rattle.script_reader.specs.Words.{is_no_space}
-use Rattle.script_reader.proofs.WordLemmas.{first_and_others, no_bytes}
+use Rattle.script_reader.proofs.WordLemmas.{first_and_others}
 use Rattle.script_reader.proofs.words.Words.first.Goals as goal
 
 pub returns : goal.returns
