@@ -1,5 +1,5 @@
 -- What carrying out a command's plan says of the controller.
-use Rattle.std.proofs.Common.{◌≡◌, ◌∙◌, ℕ, ◌+◌, ◌*◌, ◌<◌, ◌≤◌, Bool, true, false, nat_lt, List, ◌++◌, Option, Some, None, length, refl, sym, ap, subst, arith, lit≤, inl, inr}
+use Rattle.std.proofs.Common.{◌≡◌, ◌∙◌, ℕ, ◌+◌, ◌<◌, ◌≤◌, Bool, nat_lt, List, ◌++◌, Option, Some, None, length, refl, sym, ap, subst, arith, lit≤, inl, inr}
 use Rattle.std.proofs.lemmas.Bool.{lt-ltb, le-ltb}
 use Rattle.std.specs.Bool.{if◌then◌else◌}
 use Rattle.net_names.specs.declared.code.Code.{Code}
@@ -12,12 +12,11 @@ use Rattle.kernel_model.specs.View.{KernelView, state_of, grown}
 use Rattle.kernel_model.specs.declared.request.Entry.{Entry}
 use Rattle.policy_state.specs.Step.{refusal, changed}
 use Rattle.policy_state.specs.Table.{rule_table, route_list}
-use Rattle.policy_state.specs.View.{StateView, IsGood}
+use Rattle.policy_state.specs.View.{StateView}
 use Rattle.policy_state.specs.declared.command.Command.{Command}
 use Rattle.rule_compile.specs.Asked.{asked, carried, MayStep}
-use Rattle.plan_exec.specs.Carries.{Carries, IsForm}
-use Rattle.plan_exec.specs.declared.Carried.{Carried}
-use Rattle.plan_exec.specs.declared.Carried.TheVariants.{Done, Undone, Halted}
+use Rattle.plan_exec.specs.Carries.{Carries}
+use Rattle.plan_exec.specs.declared.Carried.TheVariants.{Done, Halted}
 use Rattle.std.specs.Prelude.{Err, [], ◌∷◌, ◌≢◌}
 use Rattle.std.proofs.lemmas.Bool.Decides.{eqb_tells}
 use Rattle.prefixes.specs.declared.addr.Family.{Family}
@@ -30,11 +29,9 @@ use Rattle.policy_state.specs.View.{start}
 use Rattle.net_control.specs.Started.{start_adds, IsStarted}
 use Rattle.net_control.specs.declared.controller.StartFault.TheVariants as fault
 use Rattle.kernel_model.specs.Journal.{replay, replay_from}
-use Rattle.net_control.specs.Applied.{code_of, most_requests, adds_of, deletes_of, or_else, IsTaken, IsAnswered}
+use Rattle.net_control.specs.Applied.{code_of, most_requests, adds_of, deletes_of, or_else}
 use Rattle.net_control.specs.Limit.{journal_limit}
 use Rattle.net_control.specs.View.{ControllerView, running, IsKept, StandsFor}
-use Rattle.net_control.specs.declared.controller.Answer.{Answer}
-use Rattle.net_control.specs.declared.controller.Answer.TheVariants as answer
 
 -- the policy accepts and the journal has room
 pub accepted_with_room : (s : StateView) (journal : List Entry) (command : Command) → refusal s command ≡ None
@@ -78,8 +75,8 @@ pub done_grew : (plan : PlanView) (old mid new : KernelView) (s : StateView) (co
     → Carries plan mid new Done → new ≡ grown old (done (adds_of s command) (deletes_of s command))
 done_grew plan old mid new s command plan_is same carries =
     let here : Carries (asked s (changed s command)) old new Done =
-        subst (λ (k : KernelView). Carries (asked s (changed s command)) k new Done) same
-        (subst (λ (p : PlanView). Carries p mid new Done) plan_is carries) in
+    subst (λ (k : KernelView). Carries (asked s (changed s command)) k new Done) same
+    (subst (λ (p : PlanView). Carries p mid new Done) plan_is carries) in
     here.grew ∙ ap (grown old) here.form
 
 -- a start that was halted
@@ -87,8 +84,8 @@ pub started_halted : (plan : PlanView) (old mid new : KernelView) (r : ℕ) → 
     → Carries plan mid new (Halted r) → IsStarted (Err (fault.Halted r)) old new
 started_halted plan old mid new r plan_is same carries =
     let here : Carries (record { adds = start_adds; deletes = [] }) old new (Halted r) =
-        subst (λ (k : KernelView). Carries (record { adds = start_adds; deletes = [] }) k new (Halted r)) same
-        (subst (λ (p : PlanView). Carries p mid new (Halted r)) plan_is carries) in
+    subst (λ (k : KernelView). Carries (record { adds = start_adds; deletes = [] }) k new (Halted r)) same
+    (subst (λ (p : PlanView). Carries p mid new (Halted r)) plan_is carries) in
     (here.entries, here.form.0, here.grew, here.form.1)
 
 -- each list stands for itself
@@ -120,8 +117,8 @@ pub start_kept : (plan : PlanView) (old mid new : KernelView) → old.journal �
     → Carries plan mid new Done → IsKept (running start) new
 start_kept plan old mid new empty plan_is same carries =
     let here : Carries (record { adds = start_adds; deletes = [] }) old new Done =
-        subst (λ (k : KernelView). Carries (record { adds = start_adds; deletes = [] }) k new Done) same
-        (subst (λ (p : PlanView). Carries p mid new Done) plan_is carries) in
+    subst (λ (k : KernelView). Carries (record { adds = start_adds; deletes = [] }) k new Done) same
+    (subst (λ (p : PlanView). Carries p mid new Done) plan_is carries) in
     record {
       good = record { lockdown_disjoint = refl; lockdown_few = omega arith };
       stands = λ _. subst (λ k. StandsFor k start) (sym here.grew)

@@ -1,5 +1,5 @@
 -- What starting a controller asks of the kernel, and what it answers.
-use Rattle.std.specs.Prelude.{◌≡◌, ℕ, ◌+◌, List, [], length, Option, Result, Ok, Err}
+use Rattle.std.specs.Prelude.{◌≡◌, ℕ, ◌+◌, List, [], length, Result, Ok, Err}
 use Rattle.kernel_model.specs.Segment.{done, IsUndoneAt, IsHalted}
 use Rattle.kernel_model.specs.View.{KernelView, grown}
 use Rattle.kernel_model.specs.declared.request.Entry.{Entry}

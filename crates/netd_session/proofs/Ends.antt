@@ -1,24 +1,25 @@
 -- How a session ends, from how far it had come.
-use Rattle.std.proofs.Common.{◌≡◌, ◌∙◌, ◌⊎◌, ℕ, ◌+◌, ◌<◌, ◌≤◌, Bool, true, false, List, [], ◌∷◌, ◌++◌, length, take, Option, None, Some, Result, Ok, Err, IsSome, inl, inr, refl, sym, ap, subst, append_assoc, arith, length-append}
-use Rattle.std.proofs.lemmas.List.{append-nil, take_all}
+use Rattle.std.proofs.Common.{◌≡◌, ◌∙◌, ◌⊎◌, ℕ, ◌+◌, ◌<◌, ◌≤◌, Bool, true, List, [], ◌∷◌, ◌++◌, length, take, Option, None, Some, Result, Ok, Err, inl, inr, refl, sym, ap, subst, append_assoc, arith, length-append}
+use Rattle.std.proofs.lemmas.List.{take_all}
 use Rattle.std.specs.Io.KnownBytes.{Consumes, Appends}
-use Rattle.line_input.specs.Cut.{AreFed, AreLast, IsCut}
-use Rattle.line_input.specs.Lines.{AreMet, IsOneLine, line_limit, input_limit}
-use Rattle.line_input.specs.Looks.{Outside, Looks, IsMetBy, held, line_of}
+use Rattle.line_input.specs.Cut.{AreFed, IsCut}
+use Rattle.line_input.specs.Lines.{AreMet, line_limit, input_limit}
+use Rattle.line_input.specs.Looks.{Outside, Looks, held, line_of}
 use Rattle.line_input.specs.declared.input.Input.{Input}
+use Rattle.line_input.specs.declared.input.Met.{Met}
 use Rattle.line_input.specs.declared.input.Met.TheVariants.{Line, End}
+use Rattle.line_input.specs.declared.input.InputFault.{InputFault}
 use Rattle.line_input.specs.declared.input.InputFault.TheVariants.{Read, TooLong}
 use Rattle.line_input.proofs.Looked.{consumes_both}
 use Rattle.line_input.proofs.MetLines.{all_met, met_at_end, met_past_limit, met_at_line, cut_on, some_met, fed_more, Meets}
 use Rattle.kernel_model.specs.View.{KernelView}
+use Rattle.net_control.specs.Started.{IsStarted}
 use Rattle.net_control.specs.View.{ControllerView, IsKept}
 use Rattle.script_reader.specs.BadLines.{IsBadAt}
-use Rattle.script_reader.specs.Lines.{Spells}
 use Rattle.netd_session.specs.Coming.{HasCome}
-use Rattle.netd_session.specs.EndedView.{EndedView}
-use Rattle.netd_session.specs.Ending.{World, HasRun, AtStart, AtLine, AtInput, EndsInput, IsSession, HasReadFault}
+use Rattle.netd_session.specs.Ending.{World, EndsInput, IsSession, HasReadFault}
 use Rattle.netd_session.specs.Offers.{Written}
-use Rattle.netd_session.specs.Talks.{standing, IsBad, IsUntouched, EndsLine, HasWriteFault, IsTaken, Takes}
+use Rattle.netd_session.specs.Talks.{standing, IsBad, EndsLine, HasWriteFault, Takes}
 use Rattle.netd_session.specs.Turns.{Standing, Goes, Ran, one_more}
 use Rattle.netd_session.specs.declared.turn.Turn.{Turn}
 use Rattle.netd_session.specs.declared.status.Status.{Status}
@@ -31,6 +32,11 @@ appends_both (Some s) None c xs ys p q = absurd p
 appends_both (Some s) (Some t) None xs ys p q = absurd q
 appends_both (Some s) (Some t) (Some u) xs ys p q = q ∙ ap (λ (l : List ℕ). l ++ ys) p ∙ append_assoc s xs ys
 
+-- the same answer
+pub with_answer : {bytes : List ℕ} {count : ℕ} {input : Input} {before after : Outside} {answer same : Result Met InputFault}
+    → answer ≡ same → Looks bytes count input before after answer → Looks bytes count input before after same
+with_answer {bytes} {count} {input} {before} {after} is looks = subst (λ (r : Result Met InputFault). Looks bytes count input before after r) is looks
+
 -- what is seen of the source of a world
 abbrev pub outside : World → Outside
 outside w = record { left = w.left; faults = w.read_faults; ended = w.ended }
@@ -40,11 +46,11 @@ abbrev pub after_read : World → Outside → World
 after_read w o = record w { left = o.left; read_faults = o.faults; ended = o.ended }
 
 -- the session ends with the input, all lines of which are answered
-module _ (old w : World) (c : ControllerView) (turns : List Turn) (count : ℕ) (held_before : List ℕ) (number : ℕ) (h : HasCome old w c turns count held_before number) (input : Input) (o : Outside) where
+module _ (begun : Standing) (before : KernelView) (started : IsStarted (Ok begun.controller) before begun.kernel) (old w : World) (c : ControllerView) (turns : List Turn) (count : ℕ) (held_before : List ℕ) (number : ℕ) (h : HasCome begun old w c turns count held_before number) (input : Input) (o : Outside) where
   -- what the session says that ends so
   at_input : (s : Status) → (more : List ℕ) → Consumes w.left o.left more → AreMet (h.given ++ more) o.ended h.lines
       → HasReadFault s old.read_faults o.faults → HasWriteFault s old.write_faults w.write_faults → EndsInput s o.ended (length (h.given ++ more))
-      → IsSession old (after_read w o) (record { status = s; turns = turns })
+      → IsSession (record old { kernel = before }) (after_read w o) (record { status = s; turns = turns })
   at_input s more read met read_fault write_fault ends = record {
     given = h.given ++ more;
     read = consumes_both old.left w.left o.left h.given more h.read read;
@@ -54,27 +60,27 @@ module _ (old w : World) (c : ControllerView) (turns : List Turn) (count : ℕ) 
     written = h.written;
     read_fault = read_fault;
     write_fault = write_fault;
-    ending = inr (inr record { stands = standing c w.kernel; run = h.run; ends = ends; kernel_is = refl });
+    ending = inr (inr record { stands = standing c w.kernel; run = record { begun = begun; started = started; ran = h.run }; ends = ends; kernel_is = refl });
   }
 
   more_count : (l : List ℕ) → input.given ≡ count + length l → input.given ≡ length (h.given ++ l)
   more_count l e = omega (arith, e, h.counted, length-append h.given l)
 
-  pub finished_at_end : Looks held_before count input (outside w) o (Ok End) → IsSession old (after_read w o) (record { status = status.Finished; turns = turns })
+  pub finished_at_end : Looks held_before count input (outside w) o (Ok End) → IsSession (record old { kernel = before }) (after_read w o) (record { status = status.Finished; turns = turns })
   finished_at_end l =
       let few : length (h.given ++ l.more) ≤ input_limit = omega (arith, more_count l.more l.counted, l.found.3) in
       at_input status.Finished l.more l.taken
       (all_met o.ended (h.given ++ l.more) h.lines [] (subst (λ (b : List ℕ). AreFed (h.given ++ l.more) h.lines b) l.found.0 (fed_more h.given h.lines held_before l.more h.cut)) refl (omega arith) (inr refl) few)
       (l.found.4 ∙ h.no_read_fault) h.no_write_fault (l.found.5, few)
 
-  pub read_failed : Looks held_before count input (outside w) o (Err Read) → IsSession old (after_read w o) (record { status = status.ReadFault; turns = turns })
+  pub read_failed : Looks held_before count input (outside w) o (Err Read) → IsSession (record old { kernel = before }) (after_read w o) (record { status = status.ReadFault; turns = turns })
   read_failed l =
       let few : length (h.given ++ l.more) ≤ input_limit = omega (arith, more_count l.more l.counted, l.found.3) in
       at_input status.ReadFault l.more l.taken
       (all_met o.ended (h.given ++ l.more) h.lines (line_of input) (subst (λ (b : List ℕ). AreFed (h.given ++ l.more) h.lines b) l.found.0 (fed_more h.given h.lines held_before l.more h.cut)) l.one_line l.found.1 (inl l.found.5) few)
       (omega (arith, l.found.4, h.no_read_fault)) h.no_write_fault few
 
-  pub input_too_long : Looks held_before count input (outside w) o (Err TooLong) → IsSession old (after_read w o) (record { status = status.TooLong; turns = turns })
+  pub input_too_long : Looks held_before count input (outside w) o (Err TooLong) → IsSession (record old { kernel = before }) (after_read w o) (record { status = status.TooLong; turns = turns })
   input_too_long l =
       let many : length (h.given ++ l.more) ≡ input_limit + 1 = sym (more_count l.more l.counted) ∙ l.found.3 in
       at_input status.TooLong l.more l.taken
@@ -141,7 +147,7 @@ write_fault_from s old mid new same fault = subst (λ (n : ℕ). HasWriteFault s
 abbrev pub after_line : World → Written → KernelView → World
 after_line w s k = record w { written = s.bytes; write_faults = s.faults; kernel = k }
 
-module _ (old w : World) (c d : ControllerView) (turns after : List Turn) (count : ℕ) (held_before : List ℕ) (number : ℕ) (h : HasCome old w c turns count held_before number)
+module _ (begun : Standing) (old w : World) (c d : ControllerView) (turns after : List Turn) (count : ℕ) (held_before : List ℕ) (number : ℕ) (h : HasCome begun old w c turns count held_before number)
     (input : Input) (o : Outside) (l : Looks held_before count input (outside w) o (Ok Line)) (sink : Written) (kernel : KernelView) where
   given_now : List ℕ
   given_now = h.given ++ l.more
@@ -153,11 +159,11 @@ module _ (old w : World) (c d : ControllerView) (turns after : List Turn) (count
   few_now = omega (arith, l.counted, h.counted, length-append h.given l.more, l.found.1)
 
   -- a line ends the session
-  pub ended_at_line : (s : Status) → Takes (Some s) (line_of input) (number + 1) (standing c w.kernel) (standing d kernel) turns after
-      (record { bytes = w.written; faults = w.write_faults }) sink → IsSession old (after_line (after_read w o) sink kernel) (record { status = s; turns = after })
-  ended_at_line s t =
+  pub ended_at_line : (before : KernelView) → IsStarted (Ok begun.controller) before begun.kernel → (s : Status) → Takes (Some s) (line_of input) (number + 1) (standing c w.kernel) (standing d kernel) turns after
+      (record { bytes = w.written; faults = w.write_faults }) sink → IsSession (record old { kernel = before }) (after_line (after_read w o) sink kernel) (record { status = s; turns = after })
+  ended_at_line before started s t =
       let m : Meets o.ended (h.given ++ l.more) h.lines (line_of input) =
-          met_at_line o.ended (h.given ++ l.more) h.lines (line_of input) l.found.0.0 (held input) cut_now l.one_line l.found.0.2 few_now in
+      met_at_line o.ended (h.given ++ l.more) h.lines (line_of input) l.found.0.0 (held input) cut_now l.one_line l.found.0.2 few_now in
       record {
         given = h.given ++ l.more;
         read = consumes_both old.left w.left o.left h.given l.more h.read l.taken;
@@ -179,7 +185,7 @@ module _ (old w : World) (c d : ControllerView) (turns after : List Turn) (count
           said = h.out;
           last = t.out;
           taken = t.taken;
-          run = h.run;
+          run = record { begun = begun; started = started; ran = h.run };
           ends = of_full s (line_of input) m.full (length h.lines + 1) (standing c w.kernel) (standing d kernel) t.more t.out t.taken m.same
               (subst (λ (n : ℕ). EndsLine s (line_of input) (n + 1) (standing c w.kernel) (standing d kernel) t.more t.out t.taken) h.numbered t.outcome.0);
           kernel_is = refl;
@@ -199,15 +205,11 @@ module _ (old w : World) (c d : ControllerView) (turns after : List Turn) (count
     whole_text : take t.taken t.out ≡ t.out
     whole_text = take_all t.taken t.out (omega (arith, t.outcome.2))
 
-    run_now : HasRun old (h.lines ++ line_of input ∷ []) (standing d kernel) after (h.out ++ take t.taken t.out)
-    run_now = record {
-      begun = h.run.begun;
-      started = h.run.started;
-      ran =
-          subst (λ (ts : List Turn). Ran h.run.begun (h.lines ++ line_of input ∷ []) (standing d kernel) ts (h.out ++ take t.taken t.out)) (sym t.turns_grew)
-          (subst (λ (text : List ℕ). Ran h.run.begun (h.lines ++ line_of input ∷ []) (standing d kernel) (turns ++ t.more) (h.out ++ text)) (sym whole_text)
-          (one_more h.lines (standing c w.kernel) turns h.out h.run.ran h.running (line_of input) (standing d kernel) t.more t.out goes_now));
-    }
+    run_now : Ran begun (h.lines ++ line_of input ∷ []) (standing d kernel) after (h.out ++ take t.taken t.out)
+    run_now =
+        subst (λ (ts : List Turn). Ran begun (h.lines ++ line_of input ∷ []) (standing d kernel) ts (h.out ++ take t.taken t.out)) (sym t.turns_grew)
+        (subst (λ (text : List ℕ). Ran begun (h.lines ++ line_of input ∷ []) (standing d kernel) (turns ++ t.more) (h.out ++ text)) (sym whole_text)
+        (one_more h.lines (standing c w.kernel) turns h.out h.run h.running (line_of input) (standing d kernel) t.more t.out goes_now))
 
     count_now : input.given ≡ length (h.given ++ l.more)
     count_now = omega (arith, l.counted, h.counted, length-append h.given l.more)
@@ -224,14 +226,14 @@ module _ (old w : World) (c d : ControllerView) (turns after : List Turn) (count
     few_more : number + 1 + length (held input) ≤ input.given
     few_more =
         let bytes : length held_before + length l.more ≡ length l.found.0.0 + length (held input) =
-            sym (length-append held_before l.more) ∙ (ap length l.found.0.1 ∙ length-append l.found.0.0 (held input)) in
+        sym (length-append held_before l.more) ∙ (ap length l.found.0.1 ∙ length-append l.found.0.0 (held input)) in
         omega (arith, bytes, some_met o.ended (line_of input) l.found.0.0 (held input) l.found.0.2, h.few, l.counted)
 
     cut_more : IsCut o.ended (h.given ++ l.more) (h.lines ++ line_of input ∷ []) (held input)
     cut_more = cut_on o.ended (h.given ++ l.more) h.lines (line_of input) l.found.0.0 (held input) cut_now l.one_line l.found.0.2 short_now
 
     come_on : IsKept d kernel → AreFed (h.given ++ l.more) (h.lines ++ line_of input ∷ []) (held input)
-        → HasCome old (after_line (after_read w o) sink kernel) d after input.given (held input) (number + 1)
+        → HasCome begun old (after_line (after_read w o) sink kernel) d after input.given (held input) (number + 1)
     come_on kept fed_so_far = record {
       given = h.given ++ l.more;
       read = bytes_now;
@@ -252,17 +254,17 @@ module _ (old w : World) (c d : ControllerView) (turns after : List Turn) (count
 
     -- the source has not ended, or bytes are held
     pub goes_on : IsKept d kernel → (o.ended ≡ true → held input ≡ [] → ⊥)
-        → HasCome old (after_line (after_read w o) sink kernel) d after input.given (held input) (number + 1)
-    goes_on kept open = by_cut cut_more
+        → HasCome begun old (after_line (after_read w o) sink kernel) d after input.given (held input) (number + 1)
+    goes_on kept either = by_cut cut_more
       where
         by_cut : IsCut o.ended (h.given ++ l.more) (h.lines ++ line_of input ∷ []) (held input)
-            → HasCome old (after_line (after_read w o) sink kernel) d after input.given (held input) (number + 1)
+            → HasCome begun old (after_line (after_read w o) sink kernel) d after input.given (held input) (number + 1)
         by_cut (inl fed_so_far) = come_on kept fed_so_far
-        by_cut (inr last) = absurd (open last.at_end last.none_held)
+        by_cut (inr last) = absurd (either last.at_end last.none_held)
 
     -- the source has ended, and no bytes are held
-    pub finished_behind : o.ended ≡ true → held input ≡ [] → IsSession old (after_line (after_read w o) sink kernel) (record { status = status.Finished; turns = after })
-    finished_behind ended none = record {
+    pub finished_behind : (before : KernelView) → IsStarted (Ok begun.controller) before begun.kernel → o.ended ≡ true → held input ≡ [] → IsSession (record old { kernel = before }) (after_line (after_read w o) sink kernel) (record { status = status.Finished; turns = after })
+    finished_behind before started ended none = record {
       given = h.given ++ l.more;
       read = bytes_now;
       lines = h.lines ++ line_of input ∷ [];
@@ -273,7 +275,7 @@ module _ (old w : World) (c d : ControllerView) (turns after : List Turn) (count
       write_fault = t.outcome.3 ∙ h.no_write_fault;
       ending = inr (inr record {
         stands = standing d kernel;
-        run = run_now;
+        run = record { begun = begun; started = started; ran = run_now };
         ends = (ended, few_now);
         kernel_is = refl;
       });

@@ -4,12 +4,13 @@ use Rattle.std.specs.Io.KnownBytes.{Consumes, Appends}
 use Rattle.line_input.specs.Cut.{AreFed}
 use Rattle.line_input.specs.Lines.{input_limit}
 use Rattle.net_control.specs.View.{ControllerView, IsKept}
-use Rattle.netd_session.specs.Ending.{World, HasRun}
+use Rattle.netd_session.specs.Ending.{World}
 use Rattle.netd_session.specs.Talks.{standing}
+use Rattle.netd_session.specs.Turns.{Standing, Ran}
 use Rattle.netd_session.specs.declared.turn.Turn.{Turn}
 
--- the lines so far are answered, and these bytes are held behind them
-pub record HasCome (old new : World) (controller : ControllerView) (turns : List Turn) (count : ℕ) (held : List ℕ) (number : ℕ) : Type 0 where
+-- from how it began the lines so far are answered, and these bytes are held behind them
+pub record HasCome (begun : Standing) (old new : World) (controller : ControllerView) (turns : List Turn) (count : ℕ) (held : List ℕ) (number : ℕ) : Type 0 where
   pub given : List ℕ
   pub read : Consumes old.left new.left given
   pub counted : count ≡ length given
@@ -20,7 +21,7 @@ pub record HasCome (old new : World) (controller : ControllerView) (turns : List
   pub few : number + length held ≤ count
   pub out : List ℕ
   pub written : Appends old.written new.written out
-  pub run : HasRun old lines (standing controller new.kernel) turns out
+  pub run : Ran begun lines (standing controller new.kernel) turns out
   pub running : controller.halted ≡ None
   pub kept : IsKept controller new.kernel
   pub no_read_fault : new.read_faults ≡ old.read_faults

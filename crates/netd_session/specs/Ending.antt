@@ -4,7 +4,6 @@ use Rattle.std.specs.Io.KnownBytes.{Consumes, Appends}
 use Rattle.line_input.specs.Lines.{AreMet, input_limit}
 use Rattle.kernel_model.specs.View.{KernelView}
 use Rattle.net_control.specs.Started.{IsStarted}
-use Rattle.net_control.specs.View.{ControllerView}
 use Rattle.net_control.specs.declared.controller.StartFault.TheVariants as fault
 use Rattle.std.specs.Prelude.{Ok, Err}
 use Rattle.netd_session.specs.EndedView.{EndedView}

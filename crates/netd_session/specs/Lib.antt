@@ -7,3 +7,4 @@ pub mod Turns
 pub mod Talks
 pub mod Ending
 pub mod Coming
+pub mod Starts

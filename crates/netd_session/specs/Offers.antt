@@ -1,5 +1,5 @@
 -- What offering some bytes to a sink does, until it has taken them all.
-use Rattle.std.specs.Prelude.{◌≡◌, ℕ, ◌<◌, ◌≤◌, List, take, length, Option, Result, Ok, Err}
+use Rattle.std.specs.Prelude.{◌≡◌, ℕ, ◌<◌, List, take, length, Option, Result, Ok, Err}
 use Rattle.std.specs.Io.KnownBytes.{Appends}
 use Rattle.net_io.specs.declared.streams.WriteFault.{WriteFault}
 use Rattle.net_io.specs.declared.streams.WriteFault.TheVariants as fault

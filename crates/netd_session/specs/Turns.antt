@@ -1,15 +1,15 @@
 -- What a session says, line by line.
-use Rattle.std.specs.Prelude.{◌≡◌, ℕ, ◌+◌, List, [], ◌∷◌, ◌++◌, length, Option, None}
+use Rattle.std.specs.Prelude.{◌≡◌, ℕ, ◌+◌, List, [], ◌∷◌, ◌++◌, length, None}
 use Rattle.kernel_model.specs.State.{rules_of}
 use Rattle.kernel_model.specs.View.{KernelView, state_of}
 use Rattle.kernel_model.specs.Walk.{trail_of}
 use Rattle.rule_match.specs.Packet.{IsMade}
 use Rattle.rule_match.specs.declared.packet.Packet.{Packet}
 use Rattle.policy_meaning.specs.Policy.{policy}
+use Rattle.policy_state.specs.declared.command.Command.{Command}
 use Rattle.net_control.specs.Applied.{IsAnswered}
 use Rattle.net_control.specs.View.{ControllerView, IsKept}
 use Rattle.net_control.specs.declared.controller.Answer.{Answer}
-use Rattle.net_control.specs.declared.controller.Answer.TheVariants as answer
 use Rattle.script_reader.specs.Lines.{Spells}
 use Rattle.script_reader.specs.declared.line.Line.{Line}
 use Rattle.script_reader.specs.declared.line.Line.TheVariants as line
@@ -37,7 +37,7 @@ abbrev pub IsPassedOver : (s e : Standing) → List Turn → List ℕ → Type 0
 IsPassedOver s e turns out = (e ≡ s) × (turns ≡ []) × (out ≡ [])
 
 -- a command is answered by the controller
-abbrev pub IsCommanded : _ → ℕ → (s e : Standing) → List Turn → List ℕ → Type 0
+abbrev pub IsCommanded : Command → ℕ → (s e : Standing) → List Turn → List ℕ → Type 0
 IsCommanded command n s e turns out =
     (a : Answer) × (what : Said) × IsAnswered a command s.controller e.controller s.kernel e.kernel × Says what a
     × (turns ≡ turn_of n what e ∷ []) × (out ≡ numbered n (answer_text a))

@@ -2,13 +2,12 @@
 #![tactic(auto)]
 
 mod output;
-mod session;
+mod running;
 mod status;
 mod talk;
-mod texts;
 mod turn;
 
 pub use output::offer;
-pub use session::session;
+pub use running::session;
 pub use status::Status;
 pub use turn::{Ended, Said, Turn};

@@ -1,5 +1,6 @@
 ghost use Rattle.std.specs.Prelude.{◌≡◌, ◌++◌, ◌∷◌, ◌+◌, ◌<◌, ◌≤◌, [], None, OnOk, OnErr, IfOk, IfSome, IfNone, vec_len, vec_capacity};
 ghost use Rattle.net_io.specs.Streams.{CanCount};
+ghost use Rattle.number_text.specs.Appends.{Appends};
 ghost use Rattle.turn_text.specs.Texts.{IsCounted, numbered};
 ghost use Rattle.kernel_model.specs.State.{rules_of};
 ghost use Rattle.kernel_model.specs.View.{state_of};
@@ -17,15 +18,16 @@ use kernel_model::Kernel;
 use net_control::{Answer, Controller};
 use net_io::{Sink, WriteFault};
 use number_text::append_bytes;
-use packet_trace::follow;
+use packet_trace::{Trail, follow};
 use policy_meaning::table_means_policy;
-use policy_state::Command;
-use prefixes::Family;
+use policy_state::{Command, State};
+use prefixes::{Addr, Family};
 use report_text::{write_rules, write_trail, write_verdict};
-use rule_match::Packet;
+use rule_match::{Packet, Verdict};
 use script_reader::{Line, LineFault, ShowLine, TraceLine, read_line, write_mark};
 use std::alloc::{AllocError, Global};
 use turn_text::{put_answer, write_bad_line, write_number};
+use uid_ranges::Uid;
 
 /// Room for the answer to any command.
 const ANSWER_ROOM: usize = 80;
@@ -53,6 +55,24 @@ fn put_turn(turns: &mut Vec<Turn>, turn: Turn)
     let _ = turns.push(turn);
 }
 
+// Appends the text of a packet's way.
+fn write_way(
+    state: &State,
+    mark: u32,
+    verdict: &Verdict,
+    trail: &Trail,
+    answer: &mut Vec<u8>,
+) -> Result<(), AllocError>
+    ensures { Appends answer.old answer.new result (went_text state.now mark verdict.now trail.now.steps) }
+{
+    append_bytes(b"mark ", answer)?;
+    write_mark(mark, answer)?;
+    append_bytes(b" ", answer)?;
+    write_verdict(state, verdict, answer)?;
+    append_bytes(b"\n", answer)?;
+    write_trail(trail, answer)
+}
+
 // Tells where the policy sends the packet, which is where the kernel's rules send it, and the rules that it meets.
 fn tell_packet<K: Kernel>(
     alloc: Global,
@@ -73,12 +93,7 @@ fn tell_packet<K: Kernel>(
     let verdict = trail.verdict();
     let mark = packet.mark();
     write_number(number, answer)?;
-    append_bytes(b"mark ", answer)?;
-    write_mark(mark, answer)?;
-    append_bytes(b" ", answer)?;
-    write_verdict(controller.state(), &verdict, answer)?;
-    append_bytes(b"\n", answer)?;
-    write_trail(&trail, answer)?;
+    write_way(controller.state(), mark, &verdict, &trail, answer)?;
     Ok(Said::Went { mark, verdict })
 }
 
@@ -108,6 +123,7 @@ pub struct Talk {
 
 impl Talk {
     ghost use Rattle.script_reader.specs.declared.line.Line.TheVariants as line;
+    ghost use Rattle.script_reader.specs.declared.line.TraceLine.TheVariants as trace;
     ghost use Rattle.turn_text.specs.Texts.{bad_text};
     ghost use Rattle.netd_session.specs.Talks.{Answers, OffersAnswer, OffersBad, Takes, standing};
     ghost use Rattle.netd_session.specs.Turns.{turn_of};
@@ -201,6 +217,24 @@ impl Talk {
         self.note(number, said, kernel)
     }
 
+    fn answer_made<K: Kernel>(
+        &mut self,
+        number: u32,
+        uid: Uid,
+        mark: u32,
+        dest: Addr,
+        kernel: &K,
+    ) -> Result<(), AllocError>
+        requires kept { IsKept self.old.controller (K.seen kernel.now) }
+        requires runs { self.old.controller.halted ≡ None }
+        requires empty { self.old.answer.items ≡ [] }
+        ensures answers { Answers result (line.Trace (trace.Made uid mark dest)) number (standing self.old.controller (K.seen kernel.now)) (standing self.new.controller (K.seen kernel.now)) self.old.turns.items self.new.turns.items self.new.answer.items }
+        ensures controller { self.new.controller ≡ self.old.controller }
+    {
+        let packet = Packet::made(uid, mark, dest, None);
+        self.answer_packet(number, &packet, kernel)
+    }
+
     fn show_rules<K: Kernel>(
         &mut self,
         number: u32,
@@ -233,7 +267,7 @@ impl Talk {
             Line::Blank => Ok(()),
             Line::Control(command) => self.answer_command(number, command, kernel),
             Line::Trace(TraceLine::Made { uid, mark, dest }) => {
-                self.answer_packet(number, &Packet::made(*uid, *mark, *dest, None), kernel)
+                self.answer_made(number, *uid, *mark, *dest, kernel)
             }
             Line::Show(ShowLine::Rules { family }) => self.show_rules(number, *family, kernel),
         }

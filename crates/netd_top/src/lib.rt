@@ -1,7 +1,7 @@
 //! The top call: reads the words of the command line, and runs what they say.
 #![tactic(auto)]
 
-mod run;
+mod top;
 
 pub use netd_session::Status;
-pub use run::run;
+pub use top::run;

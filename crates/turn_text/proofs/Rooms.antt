@@ -1,5 +1,5 @@
 -- Room for the answer to any command.
-use Rattle.std.proofs.Common.{◌≡◌, ℕ, ◌+◌, ◌<◌, ◌≤◌, ◌^◌, false, List, ◌++◌, length, Result, Ok, Err, arith, lit<, lit≤, length-append}
+use Rattle.std.proofs.Common.{◌≡◌, ℕ, ◌+◌, ◌<◌, ◌≤◌, ◌^◌, List, ◌++◌, length, Result, Ok, Err, arith, lit<, lit≤, length-append}
 use Rattle.std.specs.Prelude.{codes}
 use Rattle.std.specs.Fmt.{decimal}
 use Rattle.std.specs.Vec.{vec_len, vec_capacity}
@@ -12,7 +12,7 @@ use Rattle.net_names.specs.declared.code.Code.{Code}
 use Rattle.net_names.specs.declared.code.Code.TheVariants.{Invalid, Exists, NoNetwork, NoDevice, NoEntry, Busy, NotPermitted, AccessDenied, NoSpace, NoRoute}
 use Rattle.net_control.specs.declared.controller.Answer.{Answer}
 use Rattle.net_control.specs.declared.controller.Answer.TheVariants as answer
-use Rattle.turn_text.specs.Texts.{numbered, answer_text, refused_text, number_line, line_feed, IsCounted, answer_room}
+use Rattle.turn_text.specs.Texts.{numbered, answer_text, number_line, line_feed, IsCounted, answer_room}
 
 -- a text that fits in the room that is there is written
 pub in_room : {T E : Type 0} (old new : Vec ℕ Global) (r : Result T E) (text : List ℕ) → Appends old new r text → length text ≤ answer_room

@@ -3,4 +3,6 @@
 
 mod texts;
 
-pub use texts::{put_answer, write_bad_line, write_number, write_start_halted, write_start_refused};
+pub use texts::{
+    put_answer, write_bad_line, write_number, write_start_halted, write_start_refused,
+};

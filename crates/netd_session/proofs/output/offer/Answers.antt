@@ -1,4 +1,4 @@
-use Rattle.std.proofs.Common.{◌≡◌, ◌∙◌, ◌≤◌, ◌+◌, ◌++◌, ℕ, List, length, take, drop, arith, ap, sym, subst, append_assoc, Option, None, Some}
+use Rattle.std.proofs.Common.{◌∙◌, ◌++◌, ℕ, List, length, take, drop, arith, ap, sym, subst, append_assoc, Option, None, Some}
 use Rattle.std.proofs.lemmas.List.{length-drop, take_rest}
 use Rattle.std.proofs.Math.Seq.{take-add}
 use Rattle.std.specs.Io.KnownBytes.{Appends}
@@ -17,7 +17,7 @@ loop-at-preserved g c =
     let n = c.in-Ok.count in
     let piece = c.args.piece.now in
     let step : Appends (g.W.Sink.written c.loop-at.sink) (g.W.Sink.written c.write.new.self) (take n (drop at piece)) =
-        subst (λ (s : List ℕ). Appends (g.W.Sink.written c.loop-at.sink) (g.W.Sink.written c.write.new.self) (take n s)) (take_rest piece at) c.in-Ok.ensures.bytes in
+    subst (λ (s : List ℕ). Appends (g.W.Sink.written c.loop-at.sink) (g.W.Sink.written c.write.new.self) (take n s)) (take_rest piece at) c.in-Ok.ensures.bytes in
     record {
       inside = omega (arith, length-drop at piece, ap length (take_rest piece at), c.in-Ok.ensures.bound);
       no_fault = c.in-Ok.ensures.kept ∙ c.loop-at.invariant.no_fault;

@@ -1,4 +1,4 @@
-use Rattle.std.proofs.Common.{◌≡◌, ◌∙◌, ℕ, ◌+◌, ◌*◌, ◌≤◌, Option, None, Some, Err, length, refl, sym, ap, subst, arith, rules}
+use Rattle.std.proofs.Common.{◌≡◌, ◌∙◌, ◌+◌, ◌*◌, ◌≤◌, None, Some, Err, length, refl, sym, ap, subst, arith}
 use Rattle.kernel_model.specs.PlanView.{PlanView}
 use Rattle.kernel_model.specs.View.{KernelView, state_of}
 use Rattle.policy_state.specs.Step.{refusal, changed}
@@ -23,13 +23,13 @@ carry-requires g c =
     let s = c.self.inside.state in
     let command = c.args.command.now in
     let kept : IsKept (record { state = s; halted = c.self.inside.halted }) (g.K.Kernel.seen c.args.kernel.now) =
-        subst (λ (v : ControllerView). IsKept v (g.K.Kernel.seen c.args.kernel.now)) (sym c.self.view_is) c.requires.kept in
+    subst (λ (v : ControllerView). IsKept v (g.K.Kernel.seen c.args.kernel.now)) (sym c.self.view_is) c.requires.kept in
     let runs : c.self.inside.halted ≡ None = ap (λ (v : ControllerView). v.halted) c.self.view_is ∙ c.requires.runs in
     let may : MayStep (state_of (g.K.Kernel.seen c.args.kernel.now)) s command =
-        may_step (record { state = s; halted = c.self.inside.halted }) (g.K.Kernel.seen c.args.kernel.now) command kept runs c.in-Ok.ensures.accepted in
+    may_step (record { state = s; halted = c.self.inside.halted }) (g.K.Kernel.seen c.args.kernel.now) command kept runs c.in-Ok.ensures.accepted in
     let plan_is : c.in-Ok-plan.plan ≡ asked s (changed s command) = c.in-Ok-plan.ensures ∙ ap (λ (n : StateView). asked s n) c.in-Ok.ensures.changed in
     let room : 2 * length (adds_of s command) + length (deletes_of s command) ≤ (g.K.Kernel.room c.reserve.new.self).spare =
-        omega (arith, ap (λ (p : PlanView). length p.adds) plan_is, ap (λ (p : PlanView). length p.deletes) plan_is, c.in-Some.ensures.0, c.in_default-reserve.ensures.spare) in
+    omega (arith, ap (λ (p : PlanView). length p.adds) plan_is, ap (λ (p : PlanView). length p.deletes) plan_is, c.in-Some.ensures.0, c.in_default-reserve.ensures.spare) in
     subst (λ (k : KernelView). MayCarry c.in-Ok-plan.plan k (g.K.Kernel.room c.reserve.new.self)) (sym c.reserve.ensures.seen)
     (subst (λ (p : PlanView). MayCarry p (g.K.Kernel.seen c.args.kernel.now) (g.K.Kernel.room c.reserve.new.self)) (sym plan_is)
     (c.switch_may_be_carried.ensures (g.K.Kernel.seen c.args.kernel.now) (g.K.Kernel.room c.reserve.new.self) (rule_table s) (rule_table (changed s command)) _

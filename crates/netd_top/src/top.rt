@@ -1,6 +1,7 @@
 ghost use Rattle.std.specs.Prelude.{◌≡◌, false, [], map, string_bytes};
+ghost use Rattle.command_words.specs.View.{view_of};
 ghost use Rattle.net_io.specs.Streams.{CanCount};
-ghost use Rattle.netd_top.specs.Run.{DoesRun};
+ghost use Rattle.netd_top.specs.Run.{DoesForm, DoesRun, TellsText};
 
 use command_words::{Form, WordsFault, read_words, usage};
 use kernel_model::Armed;
@@ -9,11 +10,39 @@ use netd_session::{Status, offer, session};
 use std::alloc::Global;
 
 // Prints the usage text.
-fn tell_usage<W: Sink>(sink: &mut W) -> Status {
+fn tell_usage<W: Sink>(sink: &mut W) -> Status
+    requires { CanCount (W.faults sink.old) }
+    ensures { TellsText result (record { bytes = W.written sink.old; faults = W.faults sink.old }) (record { bytes = W.written sink.new; faults = W.faults sink.new }) }
+{
     match offer(sink, usage().as_bytes()) {
         Ok(()) => Status::BadWords,
         Err(WriteFault::Failed) => Status::WriteFault,
         Err(WriteFault::Memory(_)) => Status::Memory,
+    }
+}
+
+// Does what a form says.
+fn carry_out<S: Source, W: Sink, K: Armed>(
+    alloc: Global,
+    form: Form,
+    source: &mut S,
+    sink: &mut W,
+    kernel: &mut K,
+) -> Status
+    requires starting { (K.seen kernel.old).journal ≡ [] }
+    requires reads { CanCount (S.faults source.old) }
+    requires writes { CanCount (W.faults sink.old) }
+    requires not_ended { S.ended source.old ≡ false }
+    ensures { DoesForm (view_of form)
+        (record { left = S.left source.old; read_faults = S.faults source.old; ended = S.ended source.old; written = W.written sink.old; write_faults = W.faults sink.old; kernel = K.seen kernel.old })
+        (record { left = S.left source.new; read_faults = S.faults source.new; ended = S.ended source.new; written = W.written sink.new; write_faults = W.faults sink.new; kernel = K.seen kernel.new })
+        result }
+{
+    match form {
+        Form::Run { refuse, breaks } => {
+            kernel.arm(refuse, breaks);
+            session(alloc, source, sink, kernel).status()
+        }
     }
 }
 
@@ -36,10 +65,7 @@ pub fn run<S: Source, W: Sink, K: Armed>(
         result }
 {
     match read_words(alloc, words) {
-        Ok(Form::Run { refuse, breaks }) => {
-            kernel.arm(refuse, breaks);
-            session(alloc, source, sink, kernel).status()
-        }
+        Ok(form) => carry_out(alloc, form, source, sink, kernel),
         Err(WordsFault::NoForm) => tell_usage(sink),
         Err(WordsFault::Memory(_)) => Status::Memory,
     }

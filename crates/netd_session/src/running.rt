@@ -1,26 +1,36 @@
-ghost use Rattle.std.specs.Prelude.{◌≡◌, false, []};
+ghost use Rattle.std.specs.Prelude.{◌≡◌, false, [], None, Ok};
 ghost use Rattle.net_io.specs.Streams.{CanCount};
+ghost use Rattle.kernel_model.specs.View.{KernelView};
+ghost use Rattle.net_control.specs.Started.{IsStarted};
+ghost use Rattle.net_control.specs.View.{IsKept};
 ghost use Rattle.netd_session.specs.Ending.{IsSession};
+ghost use Rattle.netd_session.specs.Starts.{TellsStart};
 
 use crate::output::offer;
 use crate::status::Status;
 use crate::talk::Talk;
-use crate::texts::{write_start_halted, write_start_refused};
 use crate::turn::Ended;
 use kernel_model::Kernel;
 use line_input::{Input, InputFault, Met};
 use net_control::{Controller, StartFault};
 use net_io::{Sink, Source, WriteFault};
 use std::alloc::Global;
+use turn_text::{write_start_halted, write_start_refused};
 
 /// Room for the text of a start that failed.
 const START_ROOM: usize = 64;
 
 // Tells why the start failed, in the room that was taken before it.
 fn tell_start<W: Sink>(fault: StartFault, mut text: Vec<u8>, sink: &mut W) -> Status
+    requires empty { text.items ≡ [] }
+    requires writes { CanCount (W.faults sink.old) }
+    ensures { TellsStart fault result (record { bytes = W.written sink.old; faults = W.faults sink.old }) (record { bytes = W.written sink.new; faults = W.faults sink.new }) }
 {
     let (status, wrote) = match fault {
-        StartFault::Refused { request } => (Status::StartRefused, write_start_refused(request, &mut text)),
+        StartFault::Refused { request } => (
+            Status::StartRefused,
+            write_start_refused(request, &mut text),
+        ),
         StartFault::Halted { request } => (Status::Halted, write_start_halted(request, &mut text)),
         StartFault::Memory(fault) => (Status::Memory, Err(fault)),
     };
@@ -40,7 +50,18 @@ fn answer_lines<S: Source, W: Sink, K: Kernel>(
     sink: &mut W,
     kernel: &mut K,
     talk: &mut Talk,
-) -> Status {
+) -> Status
+    requires reads { CanCount (S.faults source.old) }
+    requires writes { CanCount (W.faults sink.old) }
+    requires not_ended { S.ended source.old ≡ false }
+    requires kept { IsKept talk.old.controller (K.seen kernel.old) }
+    requires runs { talk.old.controller.halted ≡ None }
+    requires no_turn { talk.old.turns.items ≡ [] }
+    ensures { (before : KernelView) → IsStarted (Ok talk.old.controller) before (K.seen kernel.old) → IsSession
+        (record { left = S.left source.old; read_faults = S.faults source.old; ended = S.ended source.old; written = W.written sink.old; write_faults = W.faults sink.old; kernel = before })
+        (record { left = S.left source.new; read_faults = S.faults source.new; ended = S.ended source.new; written = W.written sink.new; write_faults = W.faults sink.new; kernel = K.seen kernel.new })
+        (record { status = result; turns = talk.new.turns.items }) }
+{
     let mut input = Input::new();
     let mut number = 0;
     loop {

@@ -1,0 +1,125 @@
+-- How a session begins, and how it ends where the start fails.
+use Rattle.std.proofs.Common.{◌≡◌, ℕ, List, [], length, take, None, Err, inl, inr, refl, sym, subst, arith}
+use Rattle.line_input.proofs.MetLines.{all_met}
+use Rattle.line_input.specs.Lines.{AreMet}
+use Rattle.kernel_model.specs.View.{KernelView}
+use Rattle.net_control.specs.Started.{IsStarted}
+use Rattle.net_control.specs.View.{ControllerView, IsKept}
+use Rattle.net_control.specs.declared.controller.StartFault.{StartFault}
+use Rattle.net_control.specs.declared.controller.StartFault.TheVariants as fault
+use Rattle.netd_session.proofs.Taking.{nothing_more, nothing_read}
+use Rattle.netd_session.specs.Coming.{HasCome}
+use Rattle.netd_session.specs.EndedView.{EndedView}
+use Rattle.netd_session.specs.Ending.{World, EndsStart, HasReadFault, IsSession}
+use Rattle.netd_session.specs.Offers.{Written}
+use Rattle.netd_session.specs.Starts.{IsTold, TellsStart, fault_status, fault_text}
+use Rattle.netd_session.specs.Talks.{HasWriteFault, standing}
+use Rattle.netd_session.specs.Turns.{no_line}
+use Rattle.netd_session.specs.declared.turn.Turn.{Turn}
+use Rattle.netd_session.specs.declared.status.Status.{Status}
+use Rattle.netd_session.specs.declared.status.Status.TheVariants as status
+
+-- no bytes have no line
+none_met : (w : World) → AreMet [] w.ended []
+none_met w = all_met w.ended [] [] [] (record { bytes = refl; each = tt }) refl (omega arith) (inr refl) (omega arith)
+
+-- before the first line
+pub at_first : (w : World) (controller : ControllerView) (turns : List Turn) (count : ℕ) (held : List ℕ) → count ≡ 0 → held ≡ [] → turns ≡ []
+    → controller.halted ≡ None → IsKept controller w.kernel → HasCome (standing controller w.kernel) w w controller turns count held 0
+at_first w controller turns count held none_given none_held no_turn running kept =
+    subst (λ (t : List Turn). HasCome (standing controller w.kernel) w w controller t count held 0) (sym no_turn)
+    (subst (λ (b : List ℕ). HasCome (standing controller w.kernel) w w controller [] count b 0) (sym none_held)
+    (subst (λ (n : ℕ). HasCome (standing controller w.kernel) w w controller [] n [] 0) (sym none_given)
+    record {
+      given = [];
+      read = nothing_read w.left;
+      counted = refl;
+      within = omega arith;
+      lines = [];
+      numbered = refl;
+      cut = record { bytes = refl; each = tt };
+      few = omega arith;
+      out = [];
+      written = nothing_more w.written;
+      run = no_line;
+      running = running;
+      kept = kept;
+      no_read_fault = refl;
+      no_write_fault = refl;
+    }))
+
+-- the same end
+pub with_end : {old new : World} {ended same : EndedView} → ended ≡ same → IsSession old new same → IsSession old new ended
+with_end {old} {new} is session = subst (λ (e : EndedView). IsSession old new e) (sym is) session
+
+-- memory was wanting for the text of a start
+pub no_room : (w : World) (turns : List Turn) → turns ≡ [] → IsSession w w (record { status = status.Memory; turns = turns })
+no_room w turns none = record {
+  given = [];
+  read = nothing_read w.left;
+  lines = [];
+  met = none_met w;
+  out = [];
+  written = nothing_more w.written;
+  read_fault = refl;
+  write_fault = refl;
+  ending = inl record { text = []; taken = 0; ends = (inr (inr (refl, refl)), omega arith); no_turn = none; nothing_read = refl; says = refl };
+}
+
+-- how a start that failed ends
+ends : (f : StartFault) (r : Status) (old new : KernelView) (taken before after : ℕ) → IsStarted (Err f) old new
+    → IsTold r (fault_status f) taken (length (fault_text f)) before after → EndsStart r old new (fault_text f) taken
+ends (fault.Refused q) r old new taken before after started (inl told) =
+    subst (λ (s : Status). EndsStart s old new (fault_text (fault.Refused q)) taken) (sym told.0) ((q, started, refl), told.1)
+ends (fault.Refused q) r old new taken before after started (inr (inl told)) =
+    subst (λ (s : Status). EndsStart s old new (fault_text (fault.Refused q)) taken) (sym told.0) (inl (q, started, refl), told.1)
+ends (fault.Refused q) r old new taken before after started (inr (inr told)) =
+    subst (λ (s : Status). EndsStart s old new (fault_text (fault.Refused q)) taken) (sym told.0) (inl (q, started, refl), told.1)
+ends (fault.Halted q) r old new taken before after started (inl told) =
+    subst (λ (s : Status). EndsStart s old new (fault_text (fault.Halted q)) taken) (sym told.0) ((q, started, refl), told.1)
+ends (fault.Halted q) r old new taken before after started (inr (inl told)) =
+    subst (λ (s : Status). EndsStart s old new (fault_text (fault.Halted q)) taken) (sym told.0) (inr (q, started, refl), told.1)
+ends (fault.Halted q) r old new taken before after started (inr (inr told)) =
+    subst (λ (s : Status). EndsStart s old new (fault_text (fault.Halted q)) taken) (sym told.0) (inr (inl (q, started, refl)), told.1)
+ends (fault.Memory e) r old new taken before after started (inl told) =
+    subst (λ (s : Status). EndsStart s old new [] taken) (sym told.0) (inr (inr (started, refl)), omega (arith, told.1))
+ends (fault.Memory e) r old new taken before after started (inr (inl told)) = absurd (let few = told.1 in omega arith)
+ends (fault.Memory e) r old new taken before after started (inr (inr told)) =
+    subst (λ (s : Status). EndsStart s old new [] taken) (sym told.0) (inr (inr (started, refl)), told.1)
+
+no_fault_read : (f : StartFault) (r : Status) (taken all before after n : ℕ) → IsTold r (fault_status f) taken all before after → HasReadFault r n n
+no_fault_read (fault.Refused q) r taken all before after n (inl told) = subst (λ (s : Status). HasReadFault s n n) (sym told.0) refl
+no_fault_read (fault.Halted q) r taken all before after n (inl told) = subst (λ (s : Status). HasReadFault s n n) (sym told.0) refl
+no_fault_read (fault.Memory e) r taken all before after n (inl told) = subst (λ (s : Status). HasReadFault s n n) (sym told.0) refl
+no_fault_read f r taken all before after n (inr (inl told)) = subst (λ (s : Status). HasReadFault s n n) (sym told.0) refl
+no_fault_read f r taken all before after n (inr (inr told)) = subst (λ (s : Status). HasReadFault s n n) (sym told.0) refl
+
+fault_written : (f : StartFault) (r : Status) (taken all before after : ℕ) → IsTold r (fault_status f) taken all before after → HasWriteFault r before after
+fault_written (fault.Refused q) r taken all before after (inl told) = subst (λ (s : Status). HasWriteFault s before after) (sym told.0) told.2
+fault_written (fault.Halted q) r taken all before after (inl told) = subst (λ (s : Status). HasWriteFault s before after) (sym told.0) told.2
+fault_written (fault.Memory e) r taken all before after (inl told) = subst (λ (s : Status). HasWriteFault s before after) (sym told.0) told.2
+fault_written f r taken all before after (inr (inl told)) = subst (λ (s : Status). HasWriteFault s before after) (sym told.0) told.2
+fault_written f r taken all before after (inr (inr told)) = subst (λ (s : Status). HasWriteFault s before after) (sym told.0) told.2
+
+-- the start failed, and that was told
+pub start_failed : (old : World) (sink : Written) (kernel : KernelView) (f : StartFault) (r : Status) (turns : List Turn) → turns ≡ [] → IsStarted (Err f) old.kernel kernel
+    → TellsStart f r (record { bytes = old.written; faults = old.write_faults }) sink
+    → IsSession old (record old { written = sink.bytes; write_faults = sink.faults; kernel = kernel }) (record { status = r; turns = turns })
+start_failed old sink kernel f r turns none started told = record {
+  given = [];
+  read = nothing_read old.left;
+  lines = [];
+  met = none_met old;
+  out = take told.taken (fault_text f);
+  written = told.written;
+  read_fault = no_fault_read f r told.taken (length (fault_text f)) old.write_faults sink.faults old.read_faults told.outcome;
+  write_fault = fault_written f r told.taken (length (fault_text f)) old.write_faults sink.faults told.outcome;
+  ending = inl record {
+    text = fault_text f;
+    taken = told.taken;
+    ends = ends f r old.kernel kernel told.taken old.write_faults sink.faults started told.outcome;
+    no_turn = none;
+    nothing_read = refl;
+    says = refl;
+  };
+}

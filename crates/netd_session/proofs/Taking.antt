@@ -1,0 +1,94 @@
+-- What taking a line does, where no answer is offered.
+use Rattle.std.proofs.Common.{◌≡◌, ◌∙◌, ℕ, List, [], ◌∷◌, ◌++◌, length, Option, None, Some, Result, Ok, Err, OnOk, OnErr, inl, inr, refl, sym, ap, subst, arith}
+use Rattle.std.proofs.lemmas.List.{append-nil}
+use Rattle.std.specs.Io.KnownBytes.{Appends, Consumes}
+use Rattle.std.specs.declared.alloc.AllocError.{AllocError}
+use Rattle.kernel_model.specs.View.{state_of}
+use Rattle.kernel_model.specs.Walk.{trail_of}
+use Rattle.policy_meaning.specs.Policy.{policy}
+use Rattle.prefixes.specs.declared.addr.Addr.{Addr}
+use Rattle.rule_match.specs.Packet.{IsMade}
+use Rattle.rule_match.specs.declared.packet.Packet.{Packet}
+use Rattle.script_reader.specs.BadLines.{IsBadAt}
+use Rattle.script_reader.specs.Lines.{Spells}
+use Rattle.script_reader.specs.declared.line.Line.{Line}
+use Rattle.script_reader.specs.declared.line.Line.TheVariants as line
+use Rattle.script_reader.specs.declared.line.TraceLine.TheVariants as trace
+use Rattle.uid_ranges.specs.declared.range.Uid.{Uid}
+use Rattle.netd_session.specs.Offers.{Written}
+use Rattle.netd_session.specs.Went.{went_text}
+use Rattle.netd_session.specs.declared.turn.Said.TheVariants as said
+use Rattle.netd_session.specs.Talks.{Answers, IsBad, IsTaken, IsToldBad, OffersBad, Takes}
+use Rattle.netd_session.specs.Turns.{Standing, turn_of}
+use Rattle.netd_session.specs.declared.turn.Turn.{Turn}
+use Rattle.netd_session.specs.declared.status.Status.{Status}
+use Rattle.netd_session.specs.declared.status.Status.TheVariants as status
+use Rattle.turn_text.specs.Texts.{numbered, bad_text}
+
+-- known bytes grow by nothing
+pub nothing_more : (known : Option (List ℕ)) → Appends known known []
+nothing_more None = tt
+nothing_more (Some xs) = sym (append-nil xs)
+
+-- known bytes lose nothing
+pub nothing_read : (known : Option (List ℕ)) → Consumes known known []
+nothing_read None = tt
+nothing_read (Some xs) = refl
+
+-- memory was wanting before anything changed
+pub untouched : (text : List ℕ) (n : ℕ) (s e : Standing) (turns after : List Turn) (sink : Written) → e ≡ s → after ≡ turns
+    → Takes (Some status.Memory) text n s e turns after sink sink
+untouched text n s e turns after sink same kept = record {
+  more = [];
+  turns_grew = kept ∙ sym (append-nil turns);
+  out = [];
+  taken = 0;
+  written = nothing_more sink.bytes;
+  outcome = ((inr (inr (same, refl, refl)), omega arith), refl);
+}
+
+-- the same text
+pub with_text : {result : Option Status} {text same : List ℕ} {n : ℕ} {s e : Standing} {turns after : List Turn} {old new : Written}
+    → text ≡ same → Takes result text n s e turns after old new → Takes result same n s e turns after old new
+with_text {result} {text} {same} {n} {s} {e} {turns} {after} {old} {new} is takes = subst (λ (t : List ℕ). Takes result t n s e turns after old new) is takes
+
+-- a packet's line was answered, or memory was wanting
+pub traced : (result : Result (Unit {0}) AllocError) (uid : Uid) (mark : ℕ) (dest : Addr) (packet : Packet) (n : ℕ) (s e : Standing) (turns after : List Turn) (out : List ℕ)
+    → IsMade uid mark dest None packet → e ≡ s
+    → OnOk result (after ≡ turns ++ turn_of n (said.Went packet.mark (policy s.controller.state packet)) s ∷ [])
+    → OnOk result (out ≡ numbered n (went_text s.controller.state packet.mark (policy s.controller.state packet) (trail_of (state_of s.kernel) packet)))
+    → OnErr result (after ≡ turns) → Answers result (line.Trace (trace.Made uid mark dest)) n s e turns after out
+traced (Ok u) uid mark dest packet n s e turns after out made same grew text kept = (
+  turn_of n (said.Went packet.mark (policy s.controller.state packet)) s ∷ [],
+  grew,
+  (packet, made, (same, ap (λ (x : Standing). turn_of n (said.Went packet.mark (policy s.controller.state packet)) x ∷ []) (sym same), text)),
+)
+traced (Err f) uid mark dest packet n s e turns after out made same grew text kept = (same, kept)
+
+-- a bad line was told, or a front of what is said of it
+pub bad_line : (result : Status) (text : List ℕ) (n : ℕ) (s e : Standing) (turns after : List Turn) (column : ℕ) (old new : Written)
+    → IsBadAt text column → ((line : Line) → Spells text line → ⊥) → e ≡ s → after ≡ turns
+    → OffersBad result (numbered n (bad_text column)) old new → Takes (Some result) text n s e turns after old new
+bad_line result text n s e turns after column old new place none same kept offered = record {
+  more = [];
+  turns_grew = kept ∙ sym (append-nil turns);
+  out = numbered n (bad_text column);
+  taken = offered.taken;
+  written = offered.written;
+  outcome = by_status result offered.outcome;
+}
+  where
+    bad : IsBad text n s e [] (numbered n (bad_text column))
+    bad = record { column = column; place = place; no_line = none; stays = same; no_turn = refl; says = refl }
+
+    by_status : (r : Status) → IsToldBad r offered.taken (length (numbered n (bad_text column))) old.faults new.faults
+        → IsTaken (Some r) text n s e [] (numbered n (bad_text column)) offered.taken old.faults new.faults
+    by_status status.BadLine told = ((bad, told.0), told.1)
+    by_status status.WriteFault told = ((inl bad, told.0), told.1)
+    by_status status.Memory told = ((inl bad, told.0), told.1)
+    by_status status.Finished told = absurd told
+    by_status status.BadWords told = absurd told
+    by_status status.ReadFault told = absurd told
+    by_status status.Halted told = absurd told
+    by_status status.StartRefused told = absurd told
+    by_status status.TooLong told = absurd told
