@@ -13,11 +13,10 @@ use Rattle.line_input.specs.declared.input.InputFault.TheVariants.{Read, TooLong
 use Rattle.line_input.proofs.Looked.{consumes_both}
 use Rattle.line_input.proofs.MetLines.{all_met, met_at_end, met_past_limit, met_at_line, cut_on, some_met, fed_more, Meets}
 use Rattle.kernel_model.specs.View.{KernelView}
-use Rattle.net_control.specs.Started.{IsStarted}
 use Rattle.net_control.specs.View.{ControllerView, IsKept}
 use Rattle.script_reader.specs.BadLines.{IsBadAt}
 use Rattle.netd_session.specs.Coming.{HasCome}
-use Rattle.netd_session.specs.Ending.{World, EndsInput, IsSession, HasReadFault}
+use Rattle.netd_session.specs.Ending.{World, HasBegun, EndsInput, IsSession, HasReadFault}
 use Rattle.netd_session.specs.Offers.{Written}
 use Rattle.netd_session.specs.Talks.{standing, IsBad, EndsLine, HasWriteFault, Takes}
 use Rattle.netd_session.specs.Turns.{Standing, Goes, Ran, one_more}
@@ -46,7 +45,7 @@ abbrev pub after_read : World → Outside → World
 after_read w o = record w { left = o.left; read_faults = o.faults; ended = o.ended }
 
 -- the session ends with the input, all lines of which are answered
-module _ (begun : Standing) (before : KernelView) (started : IsStarted (Ok begun.controller) before begun.kernel) (old w : World) (c : ControllerView) (turns : List Turn) (count : ℕ) (held_before : List ℕ) (number : ℕ) (h : HasCome begun old w c turns count held_before number) (input : Input) (o : Outside) where
+module _ (begun : Standing) (before : KernelView) (began : HasBegun before begun) (old w : World) (c : ControllerView) (turns : List Turn) (count : ℕ) (held_before : List ℕ) (number : ℕ) (h : HasCome begun old w c turns count held_before number) (input : Input) (o : Outside) where
   -- what the session says that ends so
   at_input : (s : Status) → (more : List ℕ) → Consumes w.left o.left more → AreMet (h.given ++ more) o.ended h.lines
       → HasReadFault s old.read_faults o.faults → HasWriteFault s old.write_faults w.write_faults → EndsInput s o.ended (length (h.given ++ more))
@@ -60,7 +59,7 @@ module _ (begun : Standing) (before : KernelView) (started : IsStarted (Ok begun
     written = h.written;
     read_fault = read_fault;
     write_fault = write_fault;
-    ending = inr (inr record { stands = standing c w.kernel; run = record { begun = begun; started = started; ran = h.run }; ends = ends; kernel_is = refl });
+    ending = inr (inr record { stands = standing c w.kernel; run = record { begun = begun; began = began; ran = h.run }; ends = ends; kernel_is = refl });
   }
 
   more_count : (l : List ℕ) → input.given ≡ count + length l → input.given ≡ length (h.given ++ l)
@@ -159,9 +158,9 @@ module _ (begun : Standing) (old w : World) (c d : ControllerView) (turns after 
   few_now = omega (arith, l.counted, h.counted, length-append h.given l.more, l.found.1)
 
   -- a line ends the session
-  pub ended_at_line : (before : KernelView) → IsStarted (Ok begun.controller) before begun.kernel → (s : Status) → Takes (Some s) (line_of input) (number + 1) (standing c w.kernel) (standing d kernel) turns after
+  pub ended_at_line : (before : KernelView) → HasBegun before begun → (s : Status) → Takes (Some s) (line_of input) (number + 1) (standing c w.kernel) (standing d kernel) turns after
       (record { bytes = w.written; faults = w.write_faults }) sink → IsSession (record old { kernel = before }) (after_line (after_read w o) sink kernel) (record { status = s; turns = after })
-  ended_at_line before started s t =
+  ended_at_line before began s t =
       let m : Meets o.ended (h.given ++ l.more) h.lines (line_of input) =
       met_at_line o.ended (h.given ++ l.more) h.lines (line_of input) l.found.0.0 (held input) cut_now l.one_line l.found.0.2 few_now in
       record {
@@ -185,7 +184,7 @@ module _ (begun : Standing) (old w : World) (c d : ControllerView) (turns after 
           said = h.out;
           last = t.out;
           taken = t.taken;
-          run = record { begun = begun; started = started; ran = h.run };
+          run = record { begun = begun; began = began; ran = h.run };
           ends = of_full s (line_of input) m.full (length h.lines + 1) (standing c w.kernel) (standing d kernel) t.more t.out t.taken m.same
               (subst (λ (n : ℕ). EndsLine s (line_of input) (n + 1) (standing c w.kernel) (standing d kernel) t.more t.out t.taken) h.numbered t.outcome.0);
           kernel_is = refl;
@@ -263,8 +262,8 @@ module _ (begun : Standing) (old w : World) (c d : ControllerView) (turns after 
         by_cut (inr last) = absurd (either last.at_end last.none_held)
 
     -- the source has ended, and no bytes are held
-    pub finished_behind : (before : KernelView) → IsStarted (Ok begun.controller) before begun.kernel → o.ended ≡ true → held input ≡ [] → IsSession (record old { kernel = before }) (after_line (after_read w o) sink kernel) (record { status = status.Finished; turns = after })
-    finished_behind before started ended none = record {
+    pub finished_behind : (before : KernelView) → HasBegun before begun → o.ended ≡ true → held input ≡ [] → IsSession (record old { kernel = before }) (after_line (after_read w o) sink kernel) (record { status = status.Finished; turns = after })
+    finished_behind before began ended none = record {
       given = h.given ++ l.more;
       read = bytes_now;
       lines = h.lines ++ line_of input ∷ [];
@@ -275,7 +274,7 @@ module _ (begun : Standing) (old w : World) (c d : ControllerView) (turns after 
       write_fault = t.outcome.3 ∙ h.no_write_fault;
       ending = inr (inr record {
         stands = standing d kernel;
-        run = record { begun = begun; started = started; ran = run_now };
+        run = record { begun = begun; began = began; ran = run_now };
         ends = (ended, few_now);
         kernel_is = refl;
       });

@@ -1,3 +1,4 @@
 pub mod Ends
 pub mod Taking
 pub mod Starting
+pub mod Policed

@@ -11,7 +11,9 @@ use Rattle.netd_session.proofs.Taking.{nothing_more, nothing_read}
 use Rattle.netd_session.specs.Coming.{HasCome}
 use Rattle.netd_session.specs.EndedView.{EndedView}
 use Rattle.netd_session.specs.Ending.{World, EndsStart, HasReadFault, IsSession}
+use Rattle.netd_session.specs.Moments.{KeepsPolicy}
 use Rattle.netd_session.specs.Offers.{Written}
+use Rattle.policy_state.specs.View.{start}
 use Rattle.netd_session.specs.Starts.{IsTold, TellsStart, fault_status, fault_text}
 use Rattle.netd_session.specs.Talks.{HasWriteFault, standing}
 use Rattle.netd_session.specs.Turns.{no_line}
@@ -67,24 +69,24 @@ no_room w turns none = record {
 }
 
 -- how a start that failed ends
-ends : (f : StartFault) (r : Status) (old new : KernelView) (taken before after : ℕ) → IsStarted (Err f) old new
+ends : (f : StartFault) (r : Status) (old new : KernelView) (taken before after : ℕ) → IsStarted (Err f) old new → KeepsPolicy old new start start
     → IsTold r (fault_status f) taken (length (fault_text f)) before after → EndsStart r old new (fault_text f) taken
-ends (fault.Refused q) r old new taken before after started (inl told) =
-    subst (λ (s : Status). EndsStart s old new (fault_text (fault.Refused q)) taken) (sym told.0) ((q, started, refl), told.1)
-ends (fault.Refused q) r old new taken before after started (inr (inl told)) =
-    subst (λ (s : Status). EndsStart s old new (fault_text (fault.Refused q)) taken) (sym told.0) (inl (q, started, refl), told.1)
-ends (fault.Refused q) r old new taken before after started (inr (inr told)) =
-    subst (λ (s : Status). EndsStart s old new (fault_text (fault.Refused q)) taken) (sym told.0) (inl (q, started, refl), told.1)
-ends (fault.Halted q) r old new taken before after started (inl told) =
-    subst (λ (s : Status). EndsStart s old new (fault_text (fault.Halted q)) taken) (sym told.0) ((q, started, refl), told.1)
-ends (fault.Halted q) r old new taken before after started (inr (inl told)) =
-    subst (λ (s : Status). EndsStart s old new (fault_text (fault.Halted q)) taken) (sym told.0) (inr (q, started, refl), told.1)
-ends (fault.Halted q) r old new taken before after started (inr (inr told)) =
-    subst (λ (s : Status). EndsStart s old new (fault_text (fault.Halted q)) taken) (sym told.0) (inr (inl (q, started, refl)), told.1)
-ends (fault.Memory e) r old new taken before after started (inl told) =
+ends (fault.Refused q) r old new taken before after started moments (inl told) =
+    subst (λ (s : Status). EndsStart s old new (fault_text (fault.Refused q)) taken) (sym told.0) ((q, started, moments, refl), told.1)
+ends (fault.Refused q) r old new taken before after started moments (inr (inl told)) =
+    subst (λ (s : Status). EndsStart s old new (fault_text (fault.Refused q)) taken) (sym told.0) (inl (q, started, moments, refl), told.1)
+ends (fault.Refused q) r old new taken before after started moments (inr (inr told)) =
+    subst (λ (s : Status). EndsStart s old new (fault_text (fault.Refused q)) taken) (sym told.0) (inl (q, started, moments, refl), told.1)
+ends (fault.Halted q) r old new taken before after started moments (inl told) =
+    subst (λ (s : Status). EndsStart s old new (fault_text (fault.Halted q)) taken) (sym told.0) ((q, started, moments, refl), told.1)
+ends (fault.Halted q) r old new taken before after started moments (inr (inl told)) =
+    subst (λ (s : Status). EndsStart s old new (fault_text (fault.Halted q)) taken) (sym told.0) (inr (q, started, moments, refl), told.1)
+ends (fault.Halted q) r old new taken before after started moments (inr (inr told)) =
+    subst (λ (s : Status). EndsStart s old new (fault_text (fault.Halted q)) taken) (sym told.0) (inr (inl (q, started, moments, refl)), told.1)
+ends (fault.Memory e) r old new taken before after started moments (inl told) =
     subst (λ (s : Status). EndsStart s old new [] taken) (sym told.0) (inr (inr (started, refl)), omega (arith, told.1))
-ends (fault.Memory e) r old new taken before after started (inr (inl told)) = absurd (let few = told.1 in omega arith)
-ends (fault.Memory e) r old new taken before after started (inr (inr told)) =
+ends (fault.Memory e) r old new taken before after started moments (inr (inl told)) = absurd (let few = told.1 in omega arith)
+ends (fault.Memory e) r old new taken before after started moments (inr (inr told)) =
     subst (λ (s : Status). EndsStart s old new [] taken) (sym told.0) (inr (inr (started, refl)), told.1)
 
 no_fault_read : (f : StartFault) (r : Status) (taken all before after n : ℕ) → IsTold r (fault_status f) taken all before after → HasReadFault r n n
@@ -103,9 +105,9 @@ fault_written f r taken all before after (inr (inr told)) = subst (λ (s : Statu
 
 -- the start failed, and that was told
 pub start_failed : (old : World) (sink : Written) (kernel : KernelView) (f : StartFault) (r : Status) (turns : List Turn) → turns ≡ [] → IsStarted (Err f) old.kernel kernel
-    → TellsStart f r (record { bytes = old.written; faults = old.write_faults }) sink
+    → KeepsPolicy old.kernel kernel start start → TellsStart f r (record { bytes = old.written; faults = old.write_faults }) sink
     → IsSession old (record old { written = sink.bytes; write_faults = sink.faults; kernel = kernel }) (record { status = r; turns = turns })
-start_failed old sink kernel f r turns none started told = record {
+start_failed old sink kernel f r turns none started moments told = record {
   given = [];
   read = nothing_read old.left;
   lines = [];
@@ -117,7 +119,7 @@ start_failed old sink kernel f r turns none started told = record {
   ending = inl record {
     text = fault_text f;
     taken = told.taken;
-    ends = ends f r old.kernel kernel told.taken old.write_faults sink.faults started told.outcome;
+    ends = ends f r old.kernel kernel told.taken old.write_faults sink.faults started moments told.outcome;
     no_turn = none;
     nothing_read = refl;
     says = refl;

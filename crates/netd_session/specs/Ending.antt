@@ -6,7 +6,9 @@ use Rattle.kernel_model.specs.View.{KernelView}
 use Rattle.net_control.specs.Started.{IsStarted}
 use Rattle.net_control.specs.declared.controller.StartFault.TheVariants as fault
 use Rattle.std.specs.Prelude.{Ok, Err}
+use Rattle.policy_state.specs.View.{start}
 use Rattle.netd_session.specs.EndedView.{EndedView}
+use Rattle.netd_session.specs.Moments.{KeepsPolicy}
 use Rattle.netd_session.specs.Talks.{EndsLine, HasWriteFault}
 use Rattle.turn_text.specs.Texts.{start_refused_text, start_halted_text}
 use Rattle.netd_session.specs.Turns.{Standing, Ran}
@@ -30,8 +32,8 @@ HasReadFault _ old new = new ≡ old
 
 -- The kernel refused a rule of the start, or a deletion broke while the start was undone: that is said, and nothing is read.
 abbrev pub StartFails : Status → (old new : KernelView) → List ℕ → Type 0
-StartFails status.StartRefused old new text = (request : ℕ) × IsStarted (Err (fault.Refused request)) old new × (text ≡ start_refused_text request)
-StartFails status.Halted old new text = (request : ℕ) × IsStarted (Err (fault.Halted request)) old new × (text ≡ start_halted_text request)
+StartFails status.StartRefused old new text = (request : ℕ) × IsStarted (Err (fault.Refused request)) old new × KeepsPolicy old new start start × (text ≡ start_refused_text request)
+StartFails status.Halted old new text = (request : ℕ) × IsStarted (Err (fault.Halted request)) old new × KeepsPolicy old new start start × (text ≡ start_halted_text request)
 StartFails _ old new text = ⊥
 
 -- a session that ends at the start, with so many bytes of its text taken
@@ -53,10 +55,15 @@ pub record AtStart (old new : World) (ended : EndedView) (given out : List ℕ) 
   pub nothing_read : given ≡ []
   pub says : out ≡ take taken text
 
--- it began with the rules of the first state, and so many lines were answered in turn
+-- it began with the rules of the first state; at every moment packets go where that state's policy says
+pub record HasBegun (before : KernelView) (begun : Standing) : Type 0 where
+  pub started : IsStarted (Ok begun.controller) before begun.kernel
+  pub moments : KeepsPolicy before begun.kernel start start
+
+-- it began, and so many lines were answered in turn
 pub record HasRun (old : World) (lines : List (List ℕ)) (stands : Standing) (turns : List Turn) (out : List ℕ) : Type 0 where
   pub begun : Standing
-  pub started : IsStarted (Ok begun.controller) old.kernel begun.kernel
+  pub began : HasBegun old.kernel begun
   pub ran : Ran begun lines stands turns out
 
 -- it ended at a line, the first that isn't answered and gone on from

@@ -3,6 +3,7 @@ pub mod StatusNumber
 pub mod EndedView
 pub mod Says
 pub mod Went
+pub mod Moments
 pub mod Turns
 pub mod Talks
 pub mod Ending

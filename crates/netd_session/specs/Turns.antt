@@ -6,6 +6,7 @@ use Rattle.kernel_model.specs.Walk.{trail_of}
 use Rattle.rule_match.specs.Packet.{IsMade}
 use Rattle.rule_match.specs.declared.packet.Packet.{Packet}
 use Rattle.policy_meaning.specs.Policy.{policy}
+use Rattle.policy_state.specs.Step.{changed}
 use Rattle.policy_state.specs.declared.command.Command.{Command}
 use Rattle.net_control.specs.Applied.{IsAnswered}
 use Rattle.net_control.specs.View.{ControllerView, IsKept}
@@ -16,6 +17,7 @@ use Rattle.script_reader.specs.declared.line.Line.TheVariants as line
 use Rattle.script_reader.specs.declared.line.TraceLine.TheVariants as trace
 use Rattle.script_reader.specs.declared.line.ShowLine.TheVariants as show
 use Rattle.report_text.specs.RuleTexts.{rules_text}
+use Rattle.netd_session.specs.Moments.{KeepsPolicy}
 use Rattle.netd_session.specs.Says.{Says}
 use Rattle.netd_session.specs.Went.{went_text}
 use Rattle.turn_text.specs.Texts.{numbered, answer_text}
@@ -36,11 +38,12 @@ turn_of n s e = record { line = n; said = s; journal_end = length e.kernel.journ
 abbrev pub IsPassedOver : (s e : Standing) → List Turn → List ℕ → Type 0
 IsPassedOver s e turns out = (e ≡ s) × (turns ≡ []) × (out ≡ [])
 
--- a command is answered by the controller
+-- a command is answered by the controller, and at every moment of it packets go where the policy before or after it says
 abbrev pub IsCommanded : Command → ℕ → (s e : Standing) → List Turn → List ℕ → Type 0
 IsCommanded command n s e turns out =
     (a : Answer) × (what : Said) × IsAnswered a command s.controller e.controller s.kernel e.kernel × Says what a
     × (turns ≡ turn_of n what e ∷ []) × (out ≡ numbered n (answer_text a))
+    × KeepsPolicy s.kernel e.kernel s.controller.state (changed s.controller.state command)
 
 -- a packet's line says where the policy sends it, and prints the rules that it meets on the way
 abbrev pub IsTraced : Packet → ℕ → (s e : Standing) → List Turn → List ℕ → Type 0

@@ -5,7 +5,10 @@ ghost use Rattle.turn_text.specs.Texts.{IsCounted, numbered};
 ghost use Rattle.kernel_model.specs.State.{rules_of};
 ghost use Rattle.kernel_model.specs.View.{state_of};
 ghost use Rattle.kernel_model.specs.Walk.{trail_of};
+ghost use Rattle.net_control.specs.Applied.{IsAnswered};
 ghost use Rattle.net_control.specs.View.{IsKept};
+ghost use Rattle.netd_session.specs.Moments.{KeepsPolicy};
+ghost use Rattle.policy_state.specs.Step.{changed};
 ghost use Rattle.policy_meaning.specs.Policy.{policy};
 ghost use Rattle.report_text.specs.RuleTexts.{rules_text};
 ghost use Rattle.netd_session.specs.Says.{Says};
@@ -23,6 +26,7 @@ use policy_meaning::table_means_policy;
 use policy_state::{Command, State};
 use prefixes::{Addr, Family};
 use report_text::{write_rules, write_trail, write_verdict};
+use rule_compile::{plan_ends, plan_law};
 use rule_match::{Packet, Verdict};
 use script_reader::{Line, LineFault, ShowLine, TraceLine, read_line, write_mark};
 use std::alloc::{AllocError, Global};
@@ -45,6 +49,23 @@ fn said_of(answer: Answer) -> Option<Said>
         Answer::Halted { request } => Some(Said::Halted { request }),
         Answer::NoMemory => None,
     }
+}
+
+// Carries a command out. All the while packets go where the policy before or after it says.
+fn carry_command<K: Kernel>(
+    controller: &mut Controller,
+    kernel: &mut K,
+    command: &Command,
+) -> Answer
+    requires kept { IsKept controller.old (K.seen kernel.old) }
+    ensures answer { IsAnswered result command.now controller.old controller.new (K.seen kernel.old) (K.seen kernel.new) }
+    ensures kept { IsKept controller.new (K.seen kernel.new) }
+    ensures moments { controller.old.halted ≡ None → KeepsPolicy (K.seen kernel.old) (K.seen kernel.new) controller.old.state (changed controller.old.state command.now) }
+{
+    plan_law();
+    plan_ends();
+    table_means_policy();
+    controller.apply(kernel, command)
 }
 
 // Puts a turn last, in the room that is there.
@@ -163,7 +184,7 @@ impl Talk {
     {
         self.turns.reserve(1)?;
         self.answer.reserve(ANSWER_ROOM)?;
-        let answer = self.controller.apply(kernel, command);
+        let answer = carry_command(&mut self.controller, kernel, command);
         let Some(said) = said_of(answer) else {
             return Err(AllocError);
         };

@@ -1,0 +1,87 @@
+-- Where packets go while a command is carried out, and during the start.
+use Rattle.std.proofs.Common.{◌≡◌, ◌∙◌, ℕ, ◌≤◌, List, [], length, Option, None, Some, Result, Ok, Err, inl, inr, refl, sym, ap, subst, arith}
+use Rattle.std.proofs.lemmas.List.{append-nil}
+use Rattle.kernel_model.specs.Segment.{IsSegment}
+use Rattle.kernel_model.specs.State.{KernelState}
+use Rattle.kernel_model.specs.Switch.{walk_along}
+use Rattle.kernel_model.specs.View.{KernelView, state_of}
+use Rattle.kernel_model.specs.Walk.{walk}
+use Rattle.kernel_model.specs.declared.request.Entry.{Entry}
+use Rattle.net_control.specs.Applied.{IsAnswered, IsTaken, adds_of, deletes_of, or_else}
+use Rattle.net_control.specs.Started.{IsStarted, start_adds}
+use Rattle.net_control.specs.View.{ControllerView}
+use Rattle.net_control.specs.declared.controller.Answer.{Answer}
+use Rattle.net_control.specs.declared.controller.Answer.TheVariants as answer
+use Rattle.net_control.specs.declared.controller.StartFault.{StartFault}
+use Rattle.net_control.specs.declared.controller.StartFault.TheVariants as fault
+use Rattle.net_names.specs.declared.code.Code.{Code}
+use Rattle.netd_session.specs.Moments.{KeepsPolicy}
+use Rattle.policy_meaning.specs.Policy.{policy}
+use Rattle.policy_state.specs.Step.{changed, refusal}
+use Rattle.policy_state.specs.View.{StateView, start}
+use Rattle.policy_state.specs.declared.command.Command.{Command}
+use Rattle.rule_law.specs.Plans.{GoesOverAndBack}
+use Rattle.rule_match.specs.declared.packet.Packet.{Packet}
+use Rattle.rule_match.specs.declared.verdict.Verdict.{Verdict}
+
+-- the same moments, by the verdicts' other names
+pub by_policy : {last : ℕ} {at : ℕ → Verdict} {old new said_old said_new : Verdict} → old ≡ said_old → new ≡ said_new
+    → GoesOverAndBack last at old new → GoesOverAndBack last at said_old said_new
+by_policy {last} {at} {old} {new} {said_old} {said_new} a b goes =
+    subst (λ (v : Verdict). GoesOverAndBack last at v said_new) a (subst (λ (v : Verdict). GoesOverAndBack last at old v) b goes)
+
+-- where nothing was asked there is one moment
+one_moment : (k : KernelState) (packet : Packet) (old new : Verdict) → walk k packet ≡ old → GoesOverAndBack 0 (walk_along k packet []) old new
+one_moment k packet old new is = record {
+  over = 1;
+  back = 1;
+  in_order = omega arith;
+  before = λ i last front. subst (λ (n : ℕ). walk_along k packet [] n ≡ old) (zero_is i last) is;
+  between = λ i last over front. absurd (let l : i ≤ 0 = last in let o : 1 ≤ i = over in omega arith);
+  behind = λ i last behind. absurd (let l : i ≤ 0 = last in let o : 1 ≤ i = behind in omega arith);
+}
+  where
+    zero_is : (i : ℕ) → i ≤ 0 → 0 ≡ i
+    zero_is i last = let l : i ≤ 0 = last in omega arith
+
+pub stays : (before after : KernelView) (old new : StateView) → ((packet : Packet) → walk (state_of before) packet ≡ policy old packet) → after ≡ before
+    → KeepsPolicy before after old new
+stays before after old new means same = record {
+  entries = [];
+  grew = same ∙ sym (ap (λ (entries : List Entry). record before { journal = entries }) (append-nil before.journal));
+  moments = λ packet. one_moment (state_of before) packet (policy old packet) (policy new packet) (means packet);
+}
+
+first_none : (a b : Option Code) → or_else a b ≡ None → a ≡ None
+first_none None b none = refl
+first_none (Some c) b none = none
+
+-- what the policy accepts is what the controller takes
+pub accepted : (old : ControllerView) (before : KernelView) (command : Command) → IsTaken old before command → refusal old.state command ≡ None
+accepted old before command taken = first_none (refusal old.state command) _ taken.accepted
+
+-- the requests of a command
+pub answered : (a : Answer) (command : Command) (old new : ControllerView) (before after : KernelView)
+    → ((packet : Packet) → walk (state_of before) packet ≡ policy old.state packet)
+    → (IsTaken old before command → (entries : List Entry) → IsSegment (adds_of old.state command) (deletes_of old.state command) entries → (packet : Packet)
+    → GoesOverAndBack (length entries) (walk_along (state_of before) packet entries) (policy old.state packet) (policy (changed old.state command) packet))
+    → IsAnswered a command old new before after → KeepsPolicy before after old.state (changed old.state command)
+answered answer.Done command old new before after means goes is = record { entries = _; grew = is.1; moments = goes is.0 _ (inl refl) }
+answered (answer.Refused c) command old new before after means goes is = stays before after old.state (changed old.state command) means is.2
+answered (answer.KernelRefused q) command old new before after means goes is =
+    record { entries = is.1.1; grew = is.1.3; moments = goes is.0 is.1.1 (inr (inl (is.1.0, is.1.2))) }
+answered (answer.Halted q) command old new before after means goes (inl is) = stays before after old.state (changed old.state command) means is.1
+answered (answer.Halted q) command old new before after means goes (inr is) =
+    record { entries = is.1.0; grew = is.1.2; moments = goes is.0 is.1.0 (inr (inr is.1.1)) }
+answered answer.NoMemory command old new before after means goes is = stays before after old.state (changed old.state command) means is.1
+
+-- the requests of the start
+pub begun : (r : Result ControllerView StartFault) (before after : KernelView)
+    → ((packet : Packet) → walk (state_of before) packet ≡ policy start packet)
+    → ((entries : List Entry) → IsSegment start_adds [] entries → (packet : Packet)
+    → GoesOverAndBack (length entries) (walk_along (state_of before) packet entries) (policy start packet) (policy start packet))
+    → IsStarted r before after → KeepsPolicy before after start start
+begun (Ok c) before after means goes is = record { entries = _; grew = is.0; moments = goes _ (inl refl) }
+begun (Err (fault.Refused q)) before after means goes is = record { entries = is.1; grew = is.3; moments = goes is.1 (inr (inl (is.0, is.2))) }
+begun (Err (fault.Halted q)) before after means goes is = record { entries = is.0; grew = is.2; moments = goes is.0 (inr (inr is.1)) }
+begun (Err (fault.Memory e)) before after means goes is = stays before after start start means is

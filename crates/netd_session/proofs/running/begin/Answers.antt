@@ -1,0 +1,25 @@
+use Rattle.std.proofs.Common.{◌≡◌, sym, subst, ap}
+use Rattle.kernel_model.specs.Journal.{replay}
+use Rattle.kernel_model.specs.State.{KernelState, start as kernel_start}
+use Rattle.kernel_model.specs.Switch.{walk_along}
+use Rattle.kernel_model.specs.View.{state_of}
+use Rattle.kernel_model.specs.Walk.{walk}
+use Rattle.policy_meaning.specs.Policy.{policy}
+use Rattle.policy_state.proofs.Goodness.{good-start}
+use Rattle.policy_state.specs.View.{start}
+use Rattle.rule_compile.specs.Asked.{started}
+use Rattle.rule_law.specs.Plans.{GoesOverAndBack}
+use Rattle.std.specs.Prelude.{length}
+use Rattle.netd_session.proofs.Policed.{begun, by_policy}
+use Rattle.netd_session.proofs.running.begin.Goals as goal
+
+pub returns-clause-moments : goal.returns-clause-moments
+returns-clause-moments g c =
+    let before = g.K.Kernel.seen c.args.kernel.now in
+    let first : state_of before ≡ kernel_start = ap replay c.requires in
+    begun c.start.result before (g.K.Kernel.seen c.start.new.kernel)
+    (λ packet. subst (λ (k : KernelState). walk k packet ≡ policy start packet) (sym first) (c.own_rule_means_start.ensures packet))
+    (λ entries segment packet. subst (λ (k : KernelState). GoesOverAndBack (length entries) (walk_along k packet entries) (policy start packet) (policy start packet)) (sym first)
+    (by_policy (c.own_rule_means_start.ensures packet) (c.table_means_policy.ensures start started packet good-start c.start_law.ensures.stands)
+    (c.start_law.ensures.segment packet entries segment)))
+    c.start.ensures.answer
