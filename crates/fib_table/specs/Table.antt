@@ -1,5 +1,5 @@
 -- Tables of routes.
-use Rattle.std.specs.Prelude.{ℕ, Bool, true, ◌&&◌, not, List, [], ◌∷◌, filter}
+use Rattle.std.specs.Prelude.{ℕ, Bool, true, ◌==◌, ◌&&◌, not, List, [], ◌∷◌, map, filter}
 use Rattle.std.specs.List.{list_any}
 use Rattle.prefixes.specs.Route.{same_route, same_key}
 use Rattle.prefixes.specs.declared.route.Route.{Route}
@@ -25,3 +25,7 @@ without_route routes r = filter (λ other. not (same_route other r)) routes
 abbrev pub are_keys_distinct : List Route → Bool
 are_keys_distinct [] = true
 are_keys_distinct (r ∷ rs) = not (has_key rs r) && are_keys_distinct rs
+
+-- of routes with the numbers of their tables those of this table, in order
+abbrev pub routes_in : ℕ → List (ℕ × Route) → List Route
+routes_in n routes = map (λ (r : ℕ × Route). r.1) (filter (λ (r : ℕ × Route). r.0 == n) routes)

@@ -8,13 +8,13 @@ use Rattle.std.proofs.Math.Seq.{take-length}
 use Rattle.prefixes.specs.Route.{same_route}
 use Rattle.prefixes.specs.declared.route.Route.{Route}
 use Rattle.prefixes.proofs.Sames.{same_route-true, same_route-refl}
-use Rattle.fib_table.specs.Table.{has_route, without_route}
+use Rattle.fib_table.specs.Table.{has_route, without_route, routes_in}
 use Rattle.rule_law.specs.Rules as law
 use Rattle.rule_match.specs.declared.rule.Rule.{Rule}
 use Rattle.kernel_model.specs.Kind.{rule_kind}
 use Rattle.kernel_model.specs.State.{KernelState, rules_of, routes_of, own_rule, cut_route}
 use Rattle.kernel_model.specs.Journal.{replay_from}
-use Rattle.kernel_model.specs.Stands.{Stands, routes_in}
+use Rattle.kernel_model.specs.Stands.{Stands}
 use Rattle.kernel_model.specs.Switch.{switched, AreUnused, looks_in, IsSwitch, LosesRoutes}
 use Rattle.kernel_model.proofs.Replays.{replay_from-append}
 use Rattle.kernel_model.proofs.Requests.{routes-cut}

@@ -4,7 +4,7 @@ use Rattle.std.specs.List.{list_any, AllByRecursion}
 use Rattle.prefixes.specs.declared.addr.Family.{Family}
 use Rattle.prefixes.specs.declared.addr.Family.TheVariants as family
 use Rattle.prefixes.specs.declared.route.Route.{Route}
-use Rattle.fib_table.specs.Table.{has_route}
+use Rattle.fib_table.specs.Table.{has_route, routes_in}
 use Rattle.rule_law.specs.Plans.{AreOldAndNew, beyond}
 use Rattle.rule_law.specs.Rules as law
 use Rattle.rule_match.specs.Rule.{same_action}
@@ -16,7 +16,6 @@ use Rattle.kernel_model.specs.Kind.{rule_kind}
 use Rattle.kernel_model.specs.Journal.{replay_from}
 use Rattle.kernel_model.specs.Moments.{moment_from}
 use Rattle.kernel_model.specs.Segment.{done}
-use Rattle.kernel_model.specs.Stands.{routes_in}
 use Rattle.kernel_model.specs.State.{KernelState, rules_of, own_rule}
 use Rattle.kernel_model.specs.Walk.{rule_gives, walk}
 use Rattle.kernel_model.specs.declared.request.Entry.{Entry}

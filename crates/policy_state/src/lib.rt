@@ -3,11 +3,10 @@
 
 mod command;
 mod fault;
+mod link;
 mod state;
 
-pub use command::Command;
+pub use command::{Command, Way};
 pub use fault::StepFault;
+pub use link::Link;
 pub use state::State;
-
-#[cfg(test)]
-mod tests;

@@ -1,0 +1,32 @@
+-- Networks: their interfaces, their routes and their users.
+use Rattle.std.specs.Prelude.{ℕ, ◌==◌, Bool, false, List, [], map, filter}
+use Rattle.std.specs.List.{list_any}
+use Rattle.networks.specs.declared.network.Kind.TheVariants as kind
+use Rattle.networks.specs.declared.network.LinkRoute.{LinkRoute}
+use Rattle.networks.specs.declared.network.Network.{Network}
+use Rattle.prefixes.specs.declared.route.Route.{Route}
+use Rattle.uid_ranges.specs.Ranges.{any_holds}
+
+-- the link is an interface of the network
+abbrev pub has_link : Network → ℕ → Bool
+has_link network link = list_any (λ other. other == link) network.interfaces
+
+-- the routes that belong to this interface, in order
+abbrev pub routes_by : ℕ → List LinkRoute → List Route
+routes_by link routes = map (λ r. r.route) (filter (λ r. r.link == link) routes)
+
+-- the network is a VPN of this user
+abbrev pub holds_user : Network → ℕ → Bool
+holds_user network uid = elim network.kind [
+  | kind.Virtual secure ranges ↦ any_holds ranges uid
+  | kind.Physical permission ↦ false
+  | kind.Local ↦ false
+]
+
+-- the id that netd gives the local network
+abbrev pub local_id : ℕ
+local_id = 99
+
+-- the local network as it is at the start
+abbrev pub local_network : Network
+local_network = record { id = local_id; kind = kind.Local; interfaces = []; routes = [] }

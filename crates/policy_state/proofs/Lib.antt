@@ -1,2 +1,0 @@
-pub mod Goodness
-pub mod Levels
