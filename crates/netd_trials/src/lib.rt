@@ -1,5 +1,7 @@
-//! Tests of the top call over memory: a script in pieces, and reads and writes that fail.
+//! Tests of the top call over memory, and of a command that is halted at each place.
 #![tactic(auto)]
 
+#[cfg(test)]
+mod halting;
 #[cfg(test)]
 mod tests;
