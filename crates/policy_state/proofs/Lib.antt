@@ -4,3 +4,4 @@ pub mod RouteLists
 pub mod Accepted
 pub mod LinkLists
 pub mod Goodness
+pub mod Puts

@@ -1,6 +1,7 @@
 //! The state of the policy, the commands that change it, and the table of rules that it stands for.
 #![tactic(auto)]
 
+mod change;
 mod command;
 mod fault;
 mod link;
