@@ -1,4 +1,1 @@
-pub mod Givers
-pub mod Loopback
-pub mod Answers
-pub mod Meaning
+mod Bests
