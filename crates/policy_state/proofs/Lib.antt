@@ -1,0 +1,2 @@
+pub mod PhysicalLinks
+pub mod Levels
