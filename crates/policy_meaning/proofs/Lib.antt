@@ -1,1 +1,6 @@
 mod Bests
+mod Given
+mod Loopback
+mod Givers
+mod Single
+mod Tables
