@@ -4,3 +4,4 @@ mod Loopback
 mod Givers
 mod Single
 mod Tables
+mod Answers
