@@ -5,3 +5,4 @@ mod Givers
 mod Single
 mod Tables
 mod Answers
+mod Meaning
