@@ -1,9 +1,8 @@
 -- What the rules of each level give a packet: each level is one step of the policy.
-use Rattle.std.proofs.Common.{◌≡◌, ◌≢◌, ◌∙◌, ◌==◌, ◌&&◌, ◌∷◌, [], ◌++◌, ◌+◌, ◌<◌, ◌≤◌, ℕ, List, Bool, true, false, not, None, Some, Option, unwrap_or, refl, sym, ap, ap₂, subst, map, filter, slice_get, inl, inr, arith, bit_and, lit<}
-use Rattle.std.specs.Prelude.{◌||◌, flat_map, nat_le, if◌then◌else◌}
+use Rattle.std.proofs.Common.{◌≡◌, ◌≢◌, ◌∙◌, ◌==◌, ◌&&◌, ◌∷◌, [], ◌+◌, ℕ, List, Bool, true, false, not, None, Some, Option, unwrap_or, refl, sym, ap, ap₂, subst, map, filter, slice_get, inl, inr, arith, bit_and, lit<}
+use Rattle.std.specs.Prelude.{◌||◌, flat_map, if◌then◌else◌}
 use Rattle.std.specs.List.{list_any}
 use Rattle.std.specs.Option.{option_map, option_or, option_and_then}
-use Rattle.std.proofs.lemmas.Bool.{cases_Bool, eqb-true}
 use Rattle.std.proofs.lemmas.Bool.Decides.{nat_tests}
 use Rattle.fwmark.specs.Mark.{net_of, is_explicit, is_protected, permission_of_mark}
 use Rattle.fwmark.specs.Permission.{suffices}
@@ -15,11 +14,9 @@ use Rattle.fib_table.specs.Table.{routes_in}
 use Rattle.networks.specs.Lists.{find_id, find_link}
 use Rattle.networks.specs.Network.{has_link, local_network, local_id}
 use Rattle.networks.specs.declared.network.Network.{Network}
-use Rattle.networks.specs.declared.network.Kind.TheVariants as kind
 use Rattle.prefixes.specs.Best.{answer}
 use Rattle.prefixes.specs.declared.route.Answer.{Answer}
 use Rattle.prefixes.specs.declared.route.Answer.TheVariants as to
-use Rattle.prefixes.specs.declared.route.Route.{Route}
 use Rattle.uid_ranges.specs.Range.{holds}
 use Rattle.uid_ranges.specs.Ranges.{any_holds}
 use Rattle.uid_ranges.specs.declared.range.UidRange.{UidRange}
@@ -38,7 +35,7 @@ use Rattle.policy_state.specs.View.{StateView, IsGood, IsPhysical}
 use Rattle.policy_state.specs.Table.{Level, RootInterface, Lockdown, Explicit, BoundInterface, LocalNetwork, Implicit, Last, PhysicalLink, physical_links_of, physical_links, is_free as is_free_link, link_table, permission_word, root_range, rules_at, root_interface_rule, lockdown_rule, explicit_rule, explicit_local_rule, bound_rule, local_rule, implicit_rule, last_rule, route_list}
 use Rattle.policy_state.proofs.PhysicalLinks.{network_at, links_of-physical, is_there}
 use Rattle.policy_state.proofs.Levels.{explicitly, implicitly, explicit-selects, implicit-selects}
-use Rattle.policy_meaning.specs.Policy.{first_of, first_answer, asks_link, asks, may_choose, is_free, asks_named, asks_bound, asks_local, root_interface, is_barred}
+use Rattle.policy_meaning.specs.Policy.{first_answer, asks_link, asks, may_choose, is_free, asks_named, asks_bound, asks_local, root_interface, is_barred}
 use Rattle.policy_meaning.proofs.Given.{given, only_if, or-none, walk-given, given-one, given-append, given-map, given-flat, given-filter, given-same, given-if, first_of-map, given-found, given-number, then-if}
 use Rattle.policy_meaning.proofs.Loopback.{eqb-turned}
 use Rattle.policy_meaning.proofs.Single.{one_named, one_linked}
@@ -76,16 +73,14 @@ unprotected word =
     value_and_mask-select (record { net = None; explicit = None; guarded = Some false; permission = needs.Nothing }) word (lit< tt) ∙ plain (is_protected word)
   where
     plain : (b : Bool) → (((true && not b) && true) && true) ≡ not b
-    plain true = refl
-    plain false = refl
+    plain b = grind arith
 
 not_explicit : (word : ℕ) → (bit_and word 0x10000 == 0) ≡ not (is_explicit word)
 not_explicit word =
     value_and_mask-select (record { net = None; explicit = Some false; guarded = None; permission = needs.Nothing }) word (lit< tt) ∙ plain (is_explicit word)
   where
     plain : (b : Bool) → (((true && true) && not b) && true) ≡ not b
-    plain true = refl
-    plain false = refl
+    plain b = grind arith
 
 permits : (permission : Permission) (word : ℕ) → (bit_and word (permission_word permission) == permission_word permission) ≡ suffices (permission_of_mark word) permission
 permits permission word =
@@ -95,8 +90,7 @@ permits permission word =
     ap₂ (λ (m v : ℕ). bit_and word m == v) mask value ∙ (value_and_mask-select chosen word (lit< tt) ∙ plain (suffices (permission_of_mark word) permission))
   where
     plain : (b : Bool) → (((b && true) && true) && true) ≡ b
-    plain true = refl
-    plain false = refl
+    plain b = grind arith
 
 pub selects_all : (word : ℕ) → (bit_and word 0 == 0) ≡ true
 selects_all word = value_and_mask-select (record { net = None; explicit = None; guarded = None; permission = needs.Nothing }) word (lit< tt)
@@ -125,22 +119,16 @@ not_own : (link : ℕ) → (1000 + link == 255) ≡ false
 not_own link = grind (arith, nat_tests)
 
 and_turned : (a b c : Bool) → (a && (b && c)) ≡ ((b && a) && c)
-and_turned true true c = refl
-and_turned true false c = refl
-and_turned false true c = refl
-and_turned false false c = refl
+and_turned a b c = grind arith
 
 and_grouped : (a b c : Bool) → ((a && b) && c) ≡ (a && (b && c))
-and_grouped true b c = refl
-and_grouped false b c = refl
+and_grouped a b c = grind arith
 
 if_not : (e : Bool) (o : Option Verdict) → (if not e && true then o else None) ≡ (if e then None else o)
-if_not true o = refl
-if_not false o = refl
+if_not e o = grind arith
 
 if_none : (b : Bool) → only_if {V = Verdict} None b ≡ None
-if_none true = refl
-if_none false = refl
+if_none b = grind arith
 
 abbrev link_of : ℕ → Permission → ℕ → PhysicalLink
 link_of net permission link = record { net = net; permission = permission; link = link }

@@ -1,16 +1,13 @@
 -- The best route of a network's routes, one route more, and the first interface that says something.
 use Rattle.std.proofs.Common.{◌≡◌, ◌∙◌, ◌+◌, ◌<◌, ◌∷◌, [], ◌++◌, ℕ, List, length, get_or, take, map, filter, Bool, true, false, Option, Some, None, refl, sym, ap}
 use Rattle.std.specs.Prelude.{if◌then◌else◌}
-use Rattle.std.specs.Option.{option_or}
 use Rattle.std.proofs.lemmas.List.{take_more}
 use Rattle.networks.specs.declared.network.LinkRoute.{LinkRoute}
 use Rattle.prefixes.specs.Best.{best, longer_of}
 use Rattle.prefixes.specs.Route.{fits}
 use Rattle.prefixes.specs.declared.addr.Addr.{Addr}
-use Rattle.prefixes.specs.declared.route.Route.{Route}
 use Rattle.prefixes.proofs.Bests.{best-append, longer_of-none}
 use Rattle.policy_meaning.specs.Asking.{is_at, routes_at}
-use Rattle.policy_meaning.specs.Policy.{first_of}
 
 routes_at-append : (link : Option ℕ) (xs ys : List LinkRoute) → routes_at link (xs ++ ys) ≡ routes_at link xs ++ routes_at link ys
 routes_at-append link [] ys = refl

@@ -1,6 +1,6 @@
 -- What the first item of a list that gives something gives.
-use Rattle.std.proofs.Common.{◌≡◌, ◌∙◌, ◌==◌, ◌&&◌, ◌∷◌, [], ◌++◌, ℕ, zero, suc, List, Bool, true, false, filter, map, slice_get, Option, Some, None, unwrap_or, refl, sym, ap, ap₂, inl, inr}
-use Rattle.std.specs.Prelude.{◌||◌, flat_map, find, if◌then◌else◌}
+use Rattle.std.proofs.Common.{◌≡◌, ◌∙◌, ◌==◌, ◌∷◌, [], ◌++◌, ℕ, suc, List, Bool, true, false, filter, map, slice_get, Option, Some, None, unwrap_or, refl, sym, ap, ap₂, inl, inr}
+use Rattle.std.specs.Prelude.{flat_map, find, if◌then◌else◌}
 use Rattle.std.specs.List.{list_any}
 use Rattle.std.specs.Option.{option_or, option_and_then}
 use Rattle.std.proofs.lemmas.Bool.{cases_Bool, false≢true, eqb-true}

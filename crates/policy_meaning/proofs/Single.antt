@@ -1,5 +1,5 @@
 -- Of distinct networks one has an id, and one has an interface.
-use Rattle.std.proofs.Common.{◌≡◌, ◌∙◌, ◌==◌, ◌&&◌, ◌∷◌, [], ◌++◌, ℕ, List, Bool, true, false, not, map, refl, sym, ap, ap₂, inl, inr}
+use Rattle.std.proofs.Common.{◌≡◌, ◌∙◌, ◌==◌, ◌∷◌, [], ◌++◌, ℕ, List, Bool, true, false, not, map, refl, sym, ap, ap₂, inl, inr}
 use Rattle.std.specs.Prelude.{◌||◌, flat_map}
 use Rattle.std.specs.List.{list_any}
 use Rattle.std.proofs.lemmas.Bool.{cases_Bool, false≢true, and_parts, eqb-true}
@@ -22,11 +22,12 @@ pub one_named : (id : ℕ) (ns : List Network) → are_distinct (map (λ (n : Ne
 one_named id [] h = tt
 one_named id (n ∷ ns) h =
     let ids : List ℕ = map (λ (m : Network). m.id) ns in
-    let parts = and_parts (not (list_any (λ m. m == n.id) ids)) (are_distinct ids) h in
-    ((λ e.
-      let same : id ≡ n.id = eqb-true id n.id e in
-      sym (named_again id ns) ∙ (ap (λ k. list_any (λ m. m == k) ids) same ∙ is_not (list_any (λ m. m == n.id) ids) parts.0)),
-    one_named id ns parts.1)
+    let parts = and_parts (not (list_any (λ m. m == n.id) ids)) (are_distinct ids) h in (
+      (λ e.
+          let same : id ≡ n.id = eqb-true id n.id e in
+          sym (named_again id ns) ∙ (ap (λ k. list_any (λ m. m == k) ids) same ∙ is_not (list_any (λ m. m == n.id) ids) parts.0)),
+      one_named id ns parts.1,
+    )
 
 -- numbers of distinct lists, one behind the other
 apart : (link : ℕ) (xs ys : List ℕ) → are_distinct (xs ++ ys) ≡ true → list_any (λ n. n == link) xs ≡ true → list_any (λ n. n == link) ys ≡ false

@@ -1,6 +1,6 @@
 -- The tables of a good state: an interface's table has the routes of that interface, and the local network's has none.
-use Rattle.std.proofs.Common.{◌≡◌, ◌∙◌, ◌==◌, ◌∷◌, [], ◌++◌, ◌+◌, ℕ, zero, suc, List, Bool, true, false, filter, map, slice_get, Some, refl, sym, ap, ap₂, subst, inl, inr, arith}
-use Rattle.std.specs.Prelude.{flat_map, if◌then◌else◌}
+use Rattle.std.proofs.Common.{◌≡◌, ◌∙◌, ◌==◌, ◌∷◌, [], ◌++◌, ◌+◌, ℕ, zero, suc, List, Bool, true, false, filter, map, slice_get, Some, refl, sym, ap, ap₂, inl, inr, arith}
+use Rattle.std.specs.Prelude.{flat_map}
 use Rattle.std.specs.List.{list_any, AllByRecursion}
 use Rattle.std.proofs.lemmas.Bool.{cases_Bool, false≢true, eqb-true}
 use Rattle.std.proofs.lemmas.Bool.Decides.{nat_tests}
@@ -9,13 +9,11 @@ use Rattle.std.proofs.lemmas.List.Elements.{filter-append}
 use Rattle.fib_table.specs.Table.{routes_in}
 use Rattle.networks.specs.Lists.{are_distinct}
 use Rattle.networks.specs.Network.{has_link, routes_by, local_network}
-use Rattle.networks.specs.declared.network.Kind.{Kind}
 use Rattle.networks.specs.declared.network.LinkRoute.{LinkRoute}
 use Rattle.networks.specs.declared.network.Network.{Network}
-use Rattle.networks.specs.declared.network.Kind.TheVariants as kind
 use Rattle.prefixes.specs.declared.route.Route.{Route}
 use Rattle.policy_state.specs.View.{StateView, IsGood, IsPhysical, LeadsOut}
-use Rattle.policy_state.specs.Table.{link_table, local_table, table_of, routes_of_net, route_list}
+use Rattle.policy_state.specs.Table.{link_table, local_table, routes_of_net, route_list}
 use Rattle.policy_meaning.proofs.Given.{HasAtMostOne}
 use Rattle.policy_meaning.proofs.Single.{one_linked}
 

@@ -3,7 +3,22 @@ ghost use Rattle.std.specs.Option.{option_copied};
 ghost use Rattle.fwmark.specs.Mark.{net_of, is_explicit};
 ghost use Rattle.networks.specs.Lists.{find_id};
 ghost use Rattle.policy_meaning.specs.Policy.{
-    first_of, may_choose, is_free, asks_named, asks_bound, asks_local, is_loopback, may_use_lo, is_to_device, root_interface, is_barred, chosen, rest, policy_made, policy};
+  first_of,
+  may_choose,
+  is_free,
+  asks_named,
+  asks_bound,
+  asks_local,
+  is_loopback,
+  may_use_lo,
+  is_to_device,
+  root_interface,
+  is_barred,
+  chosen,
+  rest,
+  policy_made,
+  policy,
+};
 
 use crate::asking::{ask, ask_link};
 use fwmark::{Mark, Permission, suffices};
@@ -23,7 +38,10 @@ fn may_choose(packet: &Packet, network: &Network) -> bool
 {
     match &network.kind {
         Kind::Local => true,
-        Kind::Physical { permission } => suffices(Mark::of_bits(packet.mark()).permission, *permission),
+        Kind::Physical { permission } => suffices(
+            Mark::of_bits(packet.mark()).permission,
+            *permission,
+        ),
         Kind::Virtual { .. } => false,
     }
 }
@@ -57,7 +75,11 @@ fn ask_explicit(state: &State, packet: &Packet) -> Option<Verdict>
         return None;
     }
     let network = named(state, packet)?;
-    if may_choose(packet, network) { ask(network, packet) } else { None }
+    if may_choose(packet, network) {
+        ask(network, packet)
+    } else {
+        None
+    }
 }
 
 fn ask_implicit(state: &State, packet: &Packet) -> Option<Verdict>
@@ -67,7 +89,11 @@ fn ask_implicit(state: &State, packet: &Packet) -> Option<Verdict>
         return None;
     }
     let network = named(state, packet)?;
-    if is_free(network) { ask(network, packet) } else { None }
+    if is_free(network) {
+        ask(network, packet)
+    } else {
+        None
+    }
 }
 
 fn ask_bound(state: &State, packet: &Packet) -> Option<Verdict>
@@ -75,7 +101,11 @@ fn ask_bound(state: &State, packet: &Packet) -> Option<Verdict>
 {
     let link = packet.outgoing()?;
     let network = state.networks().network_of(link)?;
-    if may_choose(packet, network) { ask_link(network, link, packet) } else { None }
+    if may_choose(packet, network) {
+        ask_link(network, link, packet)
+    } else {
+        None
+    }
 }
 
 fn ask_local(state: &State, packet: &Packet) -> Option<Verdict>
@@ -112,7 +142,11 @@ fn is_to_device(packet: &Packet) -> bool
 fn root_interface(state: &State, packet: &Packet) -> Option<Verdict>
     ensures { result ≡ root_interface state.now packet.now }
 {
-    if packet.uid().number == 0 { ask_bound(state, packet) } else { None }
+    if packet.uid().number == 0 {
+        ask_bound(state, packet)
+    } else {
+        None
+    }
 }
 
 fn is_barred(state: &State, packet: &Packet) -> bool
@@ -127,7 +161,11 @@ fn ask_chosen(state: &State, packet: &Packet) -> Option<Verdict>
     ensures { result ≡ first_of (chosen state.now packet.now) }
 {
     let says = ask_explicit(state, packet);
-    if says.is_some() { says } else { ask_bound(state, packet) }
+    if says.is_some() {
+        says
+    } else {
+        ask_bound(state, packet)
+    }
 }
 
 fn ask_rest(state: &State, packet: &Packet) -> Option<Verdict>
@@ -137,7 +175,11 @@ fn ask_rest(state: &State, packet: &Packet) -> Option<Verdict>
         return None;
     }
     let says = ask_local(state, packet);
-    if says.is_some() { says } else { ask_implicit(state, packet) }
+    if says.is_some() {
+        says
+    } else {
+        ask_implicit(state, packet)
+    }
 }
 
 fn decide_made(state: &State, packet: &Packet) -> Verdict

@@ -1,4 +1,4 @@
-use Rattle.std.proofs.Common.{◌≡◌, ◌∙◌, ap, refl, None}
+use Rattle.std.proofs.Common.{◌∙◌, ap, refl, None}
 use Rattle.policy_meaning.specs.Asking.{routes_at}
 use Rattle.policy_meaning.specs.Policy.{asks_routes}
 use Rattle.policy_meaning.proofs.Bests.{routes_at-all}

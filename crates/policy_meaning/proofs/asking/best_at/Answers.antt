@@ -1,4 +1,4 @@
-use Rattle.std.proofs.Common.{◌≡◌, ◌∙◌, sym, ap, true, false, Some, None}
+use Rattle.std.proofs.Common.{◌≡◌, ◌∙◌, sym, ap, true, false, Some}
 use Rattle.prefixes.specs.Route.{fits}
 use Rattle.prefixes.specs.Best.{longer_of}
 use Rattle.prefixes.proofs.Bests.{longer_of-none}
