@@ -68,26 +68,22 @@ fn is_explicit(packet: &Packet) -> bool
     Mark::of_bits(packet.mark()).explicit
 }
 
-fn ask_explicit(state: &State, packet: &Packet) -> Option<Verdict>
-    ensures { result ≡ (if is_explicit packet.now.mark then asks_named state.now packet.now (may_choose packet.now) else None) }
+/// What the network that the mark names says, where the packet may choose it.
+fn ask_choice(state: &State, packet: &Packet) -> Option<Verdict>
+    ensures { result ≡ asks_named state.now packet.now (may_choose packet.now) }
 {
-    if !is_explicit(packet) {
-        return None;
-    }
-    let network = named(state, packet)?;
-    if may_choose(packet, network) {
-        ask(network, packet)
+    let choice = named(state, packet)?;
+    if may_choose(packet, choice) {
+        ask(choice, packet)
     } else {
         None
     }
 }
 
-fn ask_implicit(state: &State, packet: &Packet) -> Option<Verdict>
-    ensures { result ≡ (if is_explicit packet.now.mark then None else asks_named state.now packet.now is_free) }
+/// What the network that the mark names says, where it asks for no permission.
+fn ask_free(state: &State, packet: &Packet) -> Option<Verdict>
+    ensures { result ≡ asks_named state.now packet.now is_free }
 {
-    if is_explicit(packet) {
-        return None;
-    }
     let network = named(state, packet)?;
     if is_free(network) {
         ask(network, packet)
@@ -160,12 +156,13 @@ fn is_barred(state: &State, packet: &Packet) -> bool
 fn ask_chosen(state: &State, packet: &Packet) -> Option<Verdict>
     ensures { result ≡ first_of (chosen state.now packet.now) }
 {
-    let says = ask_explicit(state, packet);
-    if says.is_some() {
-        says
-    } else {
-        ask_bound(state, packet)
+    if is_explicit(packet) {
+        let says = ask_choice(state, packet);
+        if says.is_some() {
+            return says;
+        }
     }
+    ask_bound(state, packet)
 }
 
 fn ask_rest(state: &State, packet: &Packet) -> Option<Verdict>
@@ -176,10 +173,9 @@ fn ask_rest(state: &State, packet: &Packet) -> Option<Verdict>
     }
     let says = ask_local(state, packet);
     if says.is_some() {
-        says
-    } else {
-        ask_implicit(state, packet)
+        return says;
     }
+    ask_free(state, packet)
 }
 
 fn decide_made(state: &State, packet: &Packet) -> Verdict
