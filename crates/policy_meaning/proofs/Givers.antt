@@ -22,7 +22,7 @@ shows s [] = tt
 shows s (level ∷ rest) = (level-priority s level, shows s rest)
 
 rising : KeysRise priority_of 1 levels
-rising = (lit≤ tt, (lit≤ tt, (lit≤ tt, (lit≤ tt, tt))))
+rising = (lit≤ tt, (lit≤ tt, (lit≤ tt, (lit≤ tt, (lit≤ tt, (lit≤ tt, (lit≤ tt, tt)))))))
 
 ordered : (s : StateView) → Rises rule_kind (rule_table s) × NoneBelow rule_kind 1 (rule_table s)
 ordered s = Rises-joined rule_kind priority_of (rules_at s) 1 levels (shows s levels) rising (each_rises rule_kind priority_of (rules_at s) levels (shows s levels))

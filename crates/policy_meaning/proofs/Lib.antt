@@ -1,4 +1,8 @@
-pub mod Givers
-pub mod Loopback
-pub mod Answers
-pub mod Meaning
+mod Bests
+mod Given
+mod Loopback
+mod Givers
+mod Single
+mod Tables
+mod Answers
+mod Meaning

@@ -1,6 +1,7 @@
 //! Where each packet is to go by the policy, and that the rules of a state mean this.
 #![tactic(auto)]
 
+mod asking;
 mod decision;
 mod laws;
 

@@ -5,3 +5,5 @@ pub mod Accepted
 pub mod LinkLists
 pub mod Goodness
 pub mod Puts
+pub mod PhysicalLinks
+pub mod Levels
