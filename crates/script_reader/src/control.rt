@@ -66,10 +66,7 @@ pub fn permission_network(mut words: Words<'_>) -> Result<Line, LineFault>
     let net = words.any_net()?;
     let permission = words.permission()?;
     words.end()?;
-    Ok(Line::Control(Command::PermissionNetwork {
-        net,
-        permission,
-    }))
+    Ok(Line::Control(Command::PermissionNetwork { net, permission }))
 }
 
 /// `lockdown add RANGE`

@@ -1,11 +1,15 @@
 ghost use Rattle.script_reader.specs.Forms.{ReadsAny};
 
-use crate::control::{interface_add, link_add, link_remove, lockdown_add, lockdown_remove};
-use crate::control::{create_physical, permission_network};
+use crate::control::{
+    create_physical, interface_add, link_add, link_remove, lockdown_add, lockdown_remove,
+    permission_network,
+};
 use crate::fault::LineFault;
 use crate::line::Line;
-use crate::route::{route_add, route_add_throw, route_add_unreachable, route_add_via};
-use crate::route::{route_remove, route_remove_special};
+use crate::route::{
+    route_add, route_add_throw, route_add_unreachable, route_add_via, route_remove,
+    route_remove_special,
+};
 use crate::show::{show_networks, show_rules_4, show_rules_6, show_table};
 use crate::trace::{packet, packet_on};
 use crate::words::Words;

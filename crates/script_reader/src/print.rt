@@ -13,7 +13,9 @@ ghost use Rattle.script_reader.specs.declared.line.ShowLine.TheVariants as show;
 ghost use Rattle.script_reader.specs.declared.line.TraceLine.TheVariants as trace;
 
 use crate::line::{Line, ShowLine, TraceLine};
-use crate::write::{write_mark, write_name, write_number, write_permission, write_range, write_uid};
+use crate::write::{
+    write_mark, write_name, write_number, write_permission, write_range, write_uid,
+};
 use addr_text::{write_addr, write_prefix};
 use fwmark::Permission;
 use net_names::Name;
@@ -51,6 +53,14 @@ fn prefix_word(prefix: Prefix, out: &mut Vec<u8>) -> Result<(), AllocError>
     write_prefix(prefix, out)
 }
 
+/// Appends the verb of a line and the id of a network.
+fn print_net(verb: &[u8], net: u16, out: &mut Vec<u8>) -> Result<(), AllocError>
+    ensures { Appends out.old out.new result (verb.now ++ (space ∷ decimal net)) }
+{
+    append_bytes(verb, out)?;
+    number_word(u32::from(net), out)
+}
+
 fn print_link_add(name: &Name, index: u16, out: &mut Vec<u8>) -> Result<(), AllocError>
     ensures { Appends out.old out.new result (canonical (line.Control (command.LinkAdd name.now index))) }
 {
@@ -69,8 +79,7 @@ fn print_link_remove(name: &Name, out: &mut Vec<u8>) -> Result<(), AllocError>
 fn print_create(net: u16, permission: Permission, out: &mut Vec<u8>) -> Result<(), AllocError>
     ensures { Appends out.old out.new result (canonical (line.Control (command.CreatePhysical net permission))) }
 {
-    append_bytes(b"network create", out)?;
-    number_word(u32::from(net), out)?;
+    print_net(b"network create", net, out)?;
     append_bytes(b" physical", out)?;
     permission_word(permission, out)
 }
@@ -78,25 +87,28 @@ fn print_create(net: u16, permission: Permission, out: &mut Vec<u8>) -> Result<(
 fn print_interface(net: u16, name: &Name, out: &mut Vec<u8>) -> Result<(), AllocError>
     ensures { Appends out.old out.new result (canonical (line.Control (command.InterfaceAdd net name.now))) }
 {
-    append_bytes(b"interface add", out)?;
-    number_word(u32::from(net), out)?;
+    print_net(b"interface add", net, out)?;
     name_word(name, out)
 }
 
 fn print_permission(net: u16, permission: Permission, out: &mut Vec<u8>) -> Result<(), AllocError>
     ensures { Appends out.old out.new result (canonical (line.Control (command.PermissionNetwork net permission))) }
 {
-    append_bytes(b"permission network", out)?;
-    number_word(u32::from(net), out)?;
+    print_net(b"permission network", net, out)?;
     permission_word(permission, out)
 }
 
 /// Appends the verb of a line and the words of a route.
-fn print_route(verb: &[u8], net: u16, name: &Name, prefix: Prefix, out: &mut Vec<u8>) -> Result<(), AllocError>
+fn print_route(
+    verb: &[u8],
+    net: u16,
+    name: &Name,
+    prefix: Prefix,
+    out: &mut Vec<u8>,
+) -> Result<(), AllocError>
     ensures { Appends out.old out.new result (verb.now ++ spaced (route_pieces net name.now prefix [])) }
 {
-    append_bytes(verb, out)?;
-    number_word(u32::from(net), out)?;
+    print_net(verb, net, out)?;
     name_word(name, out)?;
     prefix_word(prefix, out)
 }
@@ -125,14 +137,26 @@ fn print_special(special: bool, out: &mut Vec<u8>) -> Result<(), AllocError>
     }
 }
 
-fn print_route_add(net: u16, name: &Name, prefix: Prefix, way: Way, out: &mut Vec<u8>) -> Result<(), AllocError>
+fn print_route_add(
+    net: u16,
+    name: &Name,
+    prefix: Prefix,
+    way: Way,
+    out: &mut Vec<u8>,
+) -> Result<(), AllocError>
     ensures { Appends out.old out.new result (canonical (line.Control (command.RouteAdd net name.now prefix way))) }
 {
     print_route(b"route add", net, name, prefix, out)?;
     print_way(way, out)
 }
 
-fn print_route_remove(net: u16, name: &Name, prefix: Prefix, special: bool, out: &mut Vec<u8>) -> Result<(), AllocError>
+fn print_route_remove(
+    net: u16,
+    name: &Name,
+    prefix: Prefix,
+    special: bool,
+    out: &mut Vec<u8>,
+) -> Result<(), AllocError>
     ensures { Appends out.old out.new result (canonical (line.Control (command.RouteRemove net name.now prefix special))) }
 {
     print_route(b"route remove", net, name, prefix, out)?;

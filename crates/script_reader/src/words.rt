@@ -3,8 +3,10 @@ ghost use Rattle.std.specs.List.{prefix_len};
 ghost use Rattle.script_reader.specs.Words.{is_no_space, is_space, words_from};
 
 use crate::fault::LineFault;
-use crate::values::{read_address, read_destination, read_literal, read_mark, read_range, read_uid};
-use crate::values::{read_any_net, read_index, read_name, read_net, read_permission, read_table};
+use crate::values::{
+    read_address, read_any_net, read_destination, read_index, read_literal, read_mark, read_name,
+    read_net, read_permission, read_range, read_table, read_uid,
+};
 use fwmark::Permission;
 use net_names::Name;
 use prefixes::{Addr, Prefix};
