@@ -45,4 +45,4 @@ all_tried cursor farthest all (inr one) = record { each = all; form = one.0; sto
 all_tried cursor farthest all (inl none) =
     let below : all.0.0 ≤ farthest = all.0.2 in
     let same : all.0.0 ≡ farthest = omega arith in
-    record { each = all; form = form.LockdownAdd; stops = subst (λ (stop : ℕ). Stops (kinds_of form.LockdownAdd) (words_left cursor) (end_of cursor) stop) same all.0.1 }
+    record { each = all; form = form.LinkAdd; stops = subst (λ (stop : ℕ). Stops (kinds_of form.LinkAdd) (words_left cursor) (end_of cursor) stop) same all.0.1 }

@@ -1,8 +1,13 @@
 -- From one word of a form to the next.
-use Rattle.std.proofs.Common.{◌≡◌, ℕ, List, [], ◌∷◌, inl, inr, sym, subst}
+use Rattle.std.proofs.Common.{◌≡◌, ℕ, List, [], ◌∷◌, Result, inl, inr, sym, subst}
+use Rattle.std.proofs.lemmas.Result.{err_from_is_err_and}
+use Rattle.std.specs.Result.{IsErrAnd}
 use Rattle.script_reader.specs.declared.fault.LineFault.{LineFault}
 use Rattle.script_reader.specs.declared.fault.LineFault.TheVariants.{Bad, Memory}
+use Rattle.script_reader.specs.declared.form.Form.{Form}
+use Rattle.script_reader.specs.declared.line.Line.{Line}
 use Rattle.script_reader.specs.declared.words.Words.{Words}
+use Rattle.script_reader.specs.Forms.{Reads, kinds_of}
 use Rattle.script_reader.specs.Cursor.{Faults, FaultsAt, Misses, Stops, Takes, end_of, words_left}
 use Rattle.script_reader.specs.Grammar.{Kind, Piece, ValueOf, AreSpelled}
 use Rattle.script_reader.specs.Words.{Word, texts}
@@ -38,6 +43,12 @@ pub faults_later : {kind : Kind} {value : ValueOf kind} {old new : Words} (kinds
     Faults kinds new fault → Faults (kind ∷ kinds) old fault
 faults_later {kind} {value} {old} {new} kinds (Bad column) one stop = stops_later kinds column one stop
 faults_later kinds (Memory fault) one stop = tt
+
+-- an exit with this fault
+pub reads_fault : (form : Form) (cursor : Words) (read : Result Line LineFault) (fault : LineFault) → IsErrAnd read (λ error. error ≡ fault) → Faults (kinds_of form) cursor fault → Reads form cursor read
+reads_fault form cursor read fault failed stops =
+    let error = err_from_is_err_and read failed in
+    subst (λ (r : Result Line LineFault). Reads form cursor r) (sym error.1) (subst (λ (f : LineFault). Faults (kinds_of form) cursor f) (sym error.2) stops)
 
 -- what the exits of a form go by
 pub ruleset form_steps = (faults_here, faults_later)

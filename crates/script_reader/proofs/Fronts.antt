@@ -1,12 +1,15 @@
 -- Words that begin a line of a form.
-use Rattle.std.proofs.Common.{◌≡◌, ℕ, ◌+◌, ◌<◌, ◌≤◌, ◌||◌, Bool, true, false, suc, cond, List, [], ◌∷◌, ◌++◌, length, refl, ap, subst, inl, inr, arith}
+use Rattle.std.proofs.Common.{◌≡◌, ℕ, ◌+◌, ◌<◌, ◌≤◌, ◌^◌, ◌||◌, Bool, true, false, suc, cond, codes, List, [], ◌∷◌, ◌++◌, length, refl, ap, subst, inl, inr, arith}
 use Rattle.std.specs.Fmt.{decimal}
-use Rattle.addr_text.specs.Canonical.{canonical}
-use Rattle.addr_text.proofs.Written.{canonical_spelled}
+use Rattle.addr_text.specs.Canonical.{canonical, canonical_prefix}
+use Rattle.addr_text.proofs.Written.{canonical_prefix_spelled, canonical_spelled}
+use Rattle.fwmark.specs.declared.permission.Permission.TheVariants.{Nothing}
+use Rattle.number_text.proofs.Spelled.{SpellsDecimal-decimal}
 use Rattle.prefixes.specs.declared.addr.Addr.TheVariants as address
+use Rattle.prefixes.specs.declared.prefix.Prefix.{Prefix}
 use Rattle.uid_ranges.specs.declared.range.Uid.{Uid}
 use Rattle.script_reader.specs.Cursor.{Stops}
-use Rattle.script_reader.specs.Grammar.{Kind, ValueOf, AreSpelled, IsSpelled, literal, uid, range, mark, addr}
+use Rattle.script_reader.specs.Grammar.{Count, Counts, Kind, ValueOf, AreSpelled, IsSpelled, any_net, index, net, table, count, literal, name, permission, uid, range, mark, addr, prefix}
 use Rattle.script_reader.specs.Words.{Word, texts, word_at, words_from, is_space, is_no_space}
 use Rattle.script_reader.proofs.FormTable.{Values, pieces_with}
 use Rattle.script_reader.specs.Canonical.{mark_text, range_text}
@@ -21,13 +24,27 @@ Fronts (kind ∷ kinds) (text ∷ others) = ((value : ValueOf kind) × IsSpelled
 abbrev root : Uid
 root = record { number = 0; in_range = omega arith }
 
+-- each count has a number
+least : (what : Count) → (number : ℕ) × Counts what number × (number < 2 ^ 64)
+least index = (2, (omega arith, omega arith), omega arith)
+least net = (0, (omega arith, λ same. absurd (omega (arith, same))), omega arith)
+least any_net = (0, omega arith, omega arith)
+least table = (0, omega arith, omega arith)
+
+abbrev everything : Prefix
+everything = record { base = address.V4 0; len = 0; is_prefix = (omega arith, refl) }
+
 -- each kind has a word
 sample : (kind : Kind) → (value : ValueOf kind) × (text : List ℕ) × IsSpelled kind value text
 sample (literal text) = (tt, text, refl)
+sample (count what) = let some = least what in (some.0, decimal some.0, (SpellsDecimal-decimal some.0 some.2, some.1))
+sample name = (codes "lo", codes "lo", (refl, refl))
+sample permission = (Nothing, codes "none", refl)
 sample uid = (root, decimal 0, SpellsUid-decimal root)
 sample range = (record { first = root; last = root; ordered = omega arith }, range_text root root, SpellsRange-text (record { first = root; last = root; ordered = omega arith }))
 sample mark = (0, mark_text 0, SpellsMark-text 0 (omega arith))
 sample addr = (address.V4 0, canonical (address.V4 0), canonical_spelled (address.V4 0) (omega arith))
+sample prefix = (everything, canonical_prefix everything, canonical_prefix_spelled everything (omega arith))
 
 samples : (kinds : List Kind) → (values : Values kinds) × (words : List (List ℕ)) × AreSpelled (pieces_with kinds values) words
 samples [] = (tt, [], tt)

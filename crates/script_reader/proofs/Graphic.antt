@@ -5,10 +5,17 @@ use Rattle.std.proofs.lemmas.List.Folds.{list_all-append}
 use Rattle.std.specs.Char.{digit_value}
 use Rattle.std.specs.List.{list_all}
 use Rattle.std.specs.Str.Parse.{AllDigits}
-use Rattle.addr_text.specs.Grammar.{Spells as SpellsAddr, SpellsGroup, SpellsOctet, SpellsRow, SpellsShort, SpellsV4, SpellsV6, colon, dot}
+use Rattle.addr_text.specs.Grammar.{Spells as SpellsAddr, SpellsGroup, SpellsOctet, SpellsPrefix, SpellsRow, SpellsShort, SpellsV4, SpellsV6, colon, dot, slash}
+use Rattle.fwmark.specs.declared.permission.Permission.{Permission}
+use Rattle.fwmark.specs.declared.permission.Permission.TheVariants.{Nothing, Network, System}
+use Rattle.net_names.specs.Name.{is_name, is_name_byte}
+use Rattle.number_text.specs.Numbers.{SpellsDecimal}
 use Rattle.prefixes.specs.declared.addr.Addr.{Addr}
 use Rattle.prefixes.specs.declared.addr.Addr.TheVariants as address
-use Rattle.script_reader.specs.Grammar.{Kind, ValueOf, IsSpelled, SpellsMark, SpellsRange, SpellsUid, addr, dash, literal, mark, range, uid}
+use Rattle.prefixes.specs.declared.prefix.Prefix.{Prefix}
+use Rattle.uid_ranges.specs.declared.range.Uid.{Uid}
+use Rattle.uid_ranges.specs.declared.range.UidRange.{UidRange}
+use Rattle.script_reader.specs.Grammar.{Kind, ValueOf, IsSpelled, SpellsMark, SpellsRange, SpellsUid, permission_text, addr, count, dash, literal, mark, name, permission, prefix, range, uid}
 use Rattle.script_reader.specs.Lines.{is_printable}
 use Rattle.script_reader.proofs.OneLine.{both_true}
 use Rattle.script_reader.specs.Words.{is_no_space}
@@ -41,10 +48,33 @@ digits_graphic : (base : ℕ) (text : List ℕ) → base ≤ 36 → AllDigits ba
 digits_graphic base [] low all = refl
 digits_graphic base (digit ∷ text) low all = both (is_graphic digit) (list_all is_graphic text) (digit_graphic base digit low all.0) (digits_graphic base text low all.1)
 
-uid_graphic : (text : List ℕ) (value : _) → SpellsUid text value → IsGraphic text
-uid_graphic text value spelled = record { all = digits_graphic 10 text (omega arith) spelled.0.numeral.1; some = spelled.0.numeral.0 }
+decimal_graphic : (text : List ℕ) (value : ℕ) → SpellsDecimal text value → IsGraphic text
+decimal_graphic text value spelled = record { all = digits_graphic 10 text (omega arith) spelled.numeral.1; some = spelled.numeral.0 }
 
-range_graphic : (text : List ℕ) (value : _) → SpellsRange text value → IsGraphic text
+uid_graphic : (text : List ℕ) (value : Uid) → SpellsUid text value → IsGraphic text
+uid_graphic text value spelled = decimal_graphic text value.number spelled.0
+
+name_byte_graphic : (byte : ℕ) → is_name_byte byte ≡ true → is_graphic byte ≡ true
+name_byte_graphic byte e = grind (arith, nat_tests)
+
+names_graphic : (text : List ℕ) → list_all is_name_byte text ≡ true → list_all is_graphic text ≡ true
+names_graphic [] all = refl
+names_graphic (byte ∷ text) all =
+    let parts = both_true (is_name_byte byte) (list_all is_name_byte text) all in
+    both (is_graphic byte) (list_all is_graphic text) (name_byte_graphic byte parts.0) (names_graphic text parts.1)
+
+name_graphic : (text : List ℕ) → is_name text ≡ true → IsGraphic text
+name_graphic text form =
+    let all = both_true (nat_le 1 (length text) && nat_le (length text) 15) (list_all is_name_byte text) form in
+    let lengths = both_true (nat_le 1 (length text)) (nat_le (length text) 15) all.0 in
+    record { all = names_graphic text all.1; some = let test : nat_le 1 (length text) ≡ true = lengths.0 in grind (arith, nat_tests) }
+
+permission_graphic : (value : Permission) → IsGraphic (permission_text value)
+permission_graphic Nothing = record { all = refl; some = omega arith }
+permission_graphic Network = record { all = refl; some = omega arith }
+permission_graphic System = record { all = refl; some = omega arith }
+
+range_graphic : (text : List ℕ) (value : UidRange) → SpellsRange text value → IsGraphic text
 range_graphic text value spelled =
     let first = uid_graphic spelled.first_text value.first spelled.first in
     let last = uid_graphic spelled.last_text value.last spelled.last in
@@ -114,19 +144,36 @@ addr_graphic : (text : List ℕ) (value : Addr) → SpellsAddr text value → Is
 addr_graphic text (address.V4 value) spelled = v4_graphic text value spelled
 addr_graphic text (address.V6 value) spelled = v6_graphic text value spelled
 
+prefix_graphic : (text : List ℕ) (value : Prefix) → SpellsPrefix text value → IsGraphic text
+prefix_graphic text value spelled =
+    let base = addr_graphic spelled.base_text value.base spelled.base in
+    let len = decimal_graphic spelled.len_text value.len spelled.len in
+    subst IsGraphic (sym spelled.cut) (record {
+      all = all_join spelled.base_text (slash ∷ spelled.len_text) base.all len.all;
+      some = behind spelled.base_text spelled.len_text slash;
+    })
+
 -- a word of its own that is graphic
 abbrev pub is_plain : Kind → Bool
 is_plain (literal text) = list_all is_graphic text && nat_lt 0 (length text)
+is_plain (count what) = true
+is_plain name = true
+is_plain permission = true
 is_plain uid = true
 is_plain range = true
 is_plain mark = true
 is_plain addr = true
+is_plain prefix = true
 
 pub spelled_graphic : (kind : Kind) (value : ValueOf kind) (text : List ℕ) → is_plain kind ≡ true → IsSpelled kind value text → IsGraphic text
 spelled_graphic (literal word) value text plain spelled =
     let parts = both_true (list_all is_graphic word) (nat_lt 0 (length word)) plain in
     subst IsGraphic (sym spelled) (record { all = parts.0; some = let test : nat_lt 0 (length word) ≡ true = parts.1 in grind (arith, nat_tests) })
+spelled_graphic (count what) value text plain spelled = decimal_graphic text value spelled.0
+spelled_graphic name value text plain spelled = subst IsGraphic (sym spelled.0) (name_graphic value spelled.1)
+spelled_graphic permission value text plain spelled = subst IsGraphic (sym spelled) (permission_graphic value)
 spelled_graphic uid value text plain spelled = uid_graphic text value spelled
 spelled_graphic range value text plain spelled = range_graphic text value spelled
 spelled_graphic mark value text plain spelled = mark_graphic text value spelled
 spelled_graphic addr value text plain spelled = addr_graphic text value spelled
+spelled_graphic prefix value text plain spelled = prefix_graphic text value spelled

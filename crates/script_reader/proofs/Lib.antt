@@ -6,6 +6,7 @@ pub mod Fronts
 pub mod OneColumn
 pub mod OneLine
 pub mod OneValue
+pub mod Printed
 pub mod Ranges
 pub mod Marks
 pub mod Graphic

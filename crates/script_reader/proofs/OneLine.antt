@@ -4,7 +4,7 @@ use Rattle.std.proofs.lemmas.Bool.Decides.{eqb_tells}
 use Rattle.std.specs.Cmp.Lexicographic.{pointwise}
 use Rattle.std.specs.List.{list_all}
 use Rattle.script_reader.specs.Forms.{kinds_of}
-use Rattle.script_reader.specs.Grammar.{Kind, ValueOf, AreSpelled, IsSpelled, addr, literal, mark, range, uid}
+use Rattle.script_reader.specs.Grammar.{Kind, ValueOf, AreSpelled, IsSpelled, addr, count, literal, mark, name, permission, prefix, range, uid}
 use Rattle.script_reader.specs.Lines.{IsBlank, Says}
 use Rattle.script_reader.specs.declared.form.Form.{Form}
 use Rattle.script_reader.specs.declared.form.TheConstants.{FORMS}
@@ -26,17 +26,25 @@ passes_at p (y ∷ xs) (suc place) x all is = passes_at p xs place x (both_true 
 -- two words of their own that aren't the same
 abbrev differ_from : List ℕ → Kind → Bool
 differ_from text (literal other) = not (pointwise ◌==◌ text other)
+differ_from text (count what) = false
+differ_from text name = false
+differ_from text permission = false
 differ_from text uid = false
 differ_from text range = false
 differ_from text mark = false
 differ_from text addr = false
+differ_from text prefix = false
 
 abbrev differ : Kind → Kind → Bool
 differ (literal text) kind = differ_from text kind
+differ (count what) kind = false
+differ name kind = false
+differ permission kind = false
 differ uid kind = false
 differ range kind = false
 differ mark kind = false
 differ addr kind = false
+differ prefix kind = false
 
 -- forms of different lengths, or with different words of their own in one place
 abbrev apart : List Kind → List Kind → Bool
@@ -58,18 +66,26 @@ differ_from-never text (literal other) value spelled e =
     differs : (b : Bool) → b ≡ true → not b ≡ true → ⊥
     differs true is e' = cc
     differs false is e' = cc
+differ_from-never text (count what) value spelled e = cc
+differ_from-never text name value spelled e = cc
+differ_from-never text permission value spelled e = cc
 differ_from-never text uid value spelled e = cc
 differ_from-never text range value spelled e = cc
 differ_from-never text mark value spelled e = cc
 differ_from-never text addr value spelled e = cc
+differ_from-never text prefix value spelled e = cc
 
 differ-never : (kind other : Kind) (a : ValueOf kind) (b : ValueOf other) (text : List ℕ) → IsSpelled kind a text → IsSpelled other b text → differ kind other ≡ true → ⊥
 differ-never (literal word) other a b text one two e =
     differ_from-never word other b (subst (IsSpelled other b) one two) e
+differ-never (count what) other a b text one two e = cc
+differ-never name other a b text one two e = cc
+differ-never permission other a b text one two e = cc
 differ-never uid other a b text one two e = cc
 differ-never range other a b text one two e = cc
 differ-never mark other a b text one two e = cc
 differ-never addr other a b text one two e = cc
+differ-never prefix other a b text one two e = cc
 
 -- no words are of two forms that are apart
 apart-never : (kinds others : List Kind) (a : Values kinds) (b : Values others) (words : List (List ℕ)) →
@@ -94,10 +110,14 @@ are_apart one other = (place_of one == place_of other) || apart (kinds_of one) (
 abbrev begins_plainly : List Kind → Bool
 begins_plainly [] = false
 begins_plainly (literal text ∷ kinds) = not (slice_index text 0 == 35)
+begins_plainly (count what ∷ kinds) = false
+begins_plainly (name ∷ kinds) = false
+begins_plainly (permission ∷ kinds) = false
 begins_plainly (uid ∷ kinds) = false
 begins_plainly (range ∷ kinds) = false
 begins_plainly (mark ∷ kinds) = false
 begins_plainly (addr ∷ kinds) = false
+begins_plainly (prefix ∷ kinds) = false
 
 all_apart : list_all (λ one. list_all (λ other. are_apart one other) FORMS) FORMS ≡ true
 all_apart = refl
@@ -120,10 +140,14 @@ form_not_blank form values words spelled blank =
         let first : slice_index text 0 ≡ 35 = ap (λ (t : List ℕ). slice_index t 0) (sym one.0) ∙ comment in
         let test : (slice_index text 0 == 35) ≡ true = eq-eqb (slice_index text 0) 35 first in
         let told : false ≡ true = ap not (sym test) ∙ plain in cc
+    by (count what ∷ kinds) vs ws one comment plain = cc
+    by (name ∷ kinds) vs ws one comment plain = cc
+    by (permission ∷ kinds) vs ws one comment plain = cc
     by (uid ∷ kinds) vs ws one comment plain = cc
     by (range ∷ kinds) vs ws one comment plain = cc
     by (mark ∷ kinds) vs ws one comment plain = cc
     by (addr ∷ kinds) vs ws one comment plain = cc
+    by (prefix ∷ kinds) vs ws one comment plain = cc
 
 one_form : (one other : Form) (a : Values (kinds_of one)) (b : Values (kinds_of other)) (words : List (List ℕ)) →
     AreSpelled (pieces_with (kinds_of one) a) words → AreSpelled (pieces_with (kinds_of other) b) words → line_with one a ≡ line_with other b

@@ -1,10 +1,10 @@
 -- The canonical text of a line.
 use Rattle.std.proofs.Common.{◌≡◌, ◌⊎◌, ℕ, true, List, [], ◌∷◌, map, refl, sym, ap, ◌∙◌, subst, inl, inr}
 use Rattle.std.specs.List.{join_with_byte, list_all}
-use Rattle.addr_text.proofs.Written.{canonical_spelled}
+use Rattle.addr_text.proofs.Written.{canonical_prefix_spelled, canonical_spelled}
 use Rattle.script_reader.specs.Canonical.{AreWithin, IsSayable, IsWithin, canonical, piece_text, value_text}
 use Rattle.script_reader.specs.Forms.{kinds_of}
-use Rattle.script_reader.specs.Grammar.{Kind, Piece, ValueOf, AreSpelled, IsSpelled, addr, literal, mark, range, uid}
+use Rattle.script_reader.specs.Grammar.{Kind, Piece, ValueOf, AreSpelled, IsSpelled, addr, count, literal, mark, name, permission, prefix, range, uid}
 use Rattle.script_reader.specs.Lines.{Says, Spells, is_printable, pieces_of}
 use Rattle.script_reader.specs.Words.{texts, words_of}
 use Rattle.script_reader.specs.declared.form.TheConstants.{FORMS}
@@ -14,15 +14,19 @@ use Rattle.script_reader.proofs.FormTable.{Parts, Values, at_place, parts_of, pi
 use Rattle.script_reader.proofs.Graphic.{is_plain, spelled_graphic}
 use Rattle.script_reader.proofs.Joined.{AreGraphic, printed_joined, words_joined}
 use Rattle.script_reader.proofs.OneLine.{both_true, passes_at}
-use Rattle.script_reader.proofs.Written.{SpellsMark-text, SpellsRange-text, SpellsUid-decimal}
+use Rattle.script_reader.proofs.Written.{SpellsCount-text, SpellsMark-text, SpellsRange-text, SpellsUid-decimal}
 
 -- the word of a value spells it
 text_spelled : (kind : Kind) (value : ValueOf kind) → IsWithin kind value → IsSpelled kind value (value_text kind value)
 text_spelled (literal text) value within = refl
+text_spelled (count what) value within = SpellsCount-text what value within
+text_spelled name value within = (refl, within)
+text_spelled permission value within = refl
 text_spelled uid value within = SpellsUid-decimal value
 text_spelled range value within = SpellsRange-text value
 text_spelled mark value within = SpellsMark-text value within
 text_spelled addr value within = canonical_spelled value within
+text_spelled prefix value within = canonical_prefix_spelled value within
 
 texts_spelled : (kinds : List Kind) (values : Values kinds) → AreWithin (pieces_with kinds values) → AreSpelled (pieces_with kinds values) (map piece_text (pieces_with kinds values))
 texts_spelled [] values within = tt

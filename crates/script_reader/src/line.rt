@@ -1,3 +1,4 @@
+use net_names::Name;
 use policy_state::Command;
 use prefixes::{Addr, Family};
 use uid_ranges::Uid;
@@ -14,12 +15,21 @@ pub enum Line {
 /// A question about the way of a packet.
 #[derive(Clone, Copy)]
 pub enum TraceLine {
-    /// A packet that the device makes, bound to no link.
-    Made { uid: Uid, mark: u32, dest: Addr },
+    /// A packet that the device makes, bound to a link or to none.
+    Made {
+        uid: Uid,
+        mark: u32,
+        dest: Addr,
+        link: Option<Name>,
+    },
 }
 
 /// A question about what there is.
 #[derive(Clone, Copy, Debug, PartialEq, Eq)]
 pub enum ShowLine {
+    /// The rules of a family.
     Rules { family: Family },
+    /// The routes of the table of this number.
+    Table { number: u32 },
+    Networks,
 }

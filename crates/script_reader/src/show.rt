@@ -30,3 +30,24 @@ pub fn show_rules_6(mut words: Words<'_>) -> Result<Line, LineFault>
     words.end()?;
     Ok(Line::Show(ShowLine::Rules { family: Family::V6 }))
 }
+
+/// `show table TABLE`
+pub fn show_table(mut words: Words<'_>) -> Result<Line, LineFault>
+    ensures { Reads form.ShowTable words.entry result }
+{
+    words.literal(b"show")?;
+    words.literal(b"table")?;
+    let number = words.table()?;
+    words.end()?;
+    Ok(Line::Show(ShowLine::Table { number }))
+}
+
+/// `show networks`
+pub fn show_networks(mut words: Words<'_>) -> Result<Line, LineFault>
+    ensures { Reads form.ShowNetworks words.entry result }
+{
+    words.literal(b"show")?;
+    words.literal(b"networks")?;
+    words.end()?;
+    Ok(Line::Show(ShowLine::Networks))
+}

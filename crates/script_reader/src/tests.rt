@@ -36,6 +36,33 @@ fn columns(rt: HostRuntime) -> Result<(), Fail> {
 }
 
 #[test]
+fn columns_of_links_and_routes(rt: HostRuntime) -> Result<(), Fail> {
+    let alloc = rt.alloc();
+    let rows: [(&[u8], u32); 16] = [
+        (b"link add wlan0", 15),
+        (b"link add abcdefghijklmnop 2", 10),
+        (b"link add x 1", 12),
+        (b"link add x 65536", 12),
+        (b"link add wl\xc3", 12),
+        (b"network create 65536 physical none", 16),
+        (b"network create 99 physical none", 16),
+        (b"network create 100 physical all", 29),
+        (b"interface add 99 wlan0", 15),
+        (b"route add 100 wlan0 10.0.0.1/24", 21),
+        (b"route add 100 wlan0 10.0.0.0/08", 21),
+        (b"route add 100 wlan0 ::/0 via fe80::1/64", 30),
+        (b"route add 100 wlan0 ::/0 special", 26),
+        (b"route remove 99 wlan0 ::/0", 14),
+        (b"permission network 65536 none", 20),
+        (b"show table 4294967296", 12),
+    ];
+    for (text, column) in rows {
+        assert_eq!(rt; column_of(alloc, text)?, Some(column));
+    }
+    Ok(())
+}
+
+#[test]
 fn comments(rt: HostRuntime) -> Result<(), Fail> {
     let alloc = rt.alloc();
     let mut text = vec![in alloc; b'#'; 512]?;
@@ -50,16 +77,55 @@ fn comments(rt: HostRuntime) -> Result<(), Fail> {
 #[test]
 fn canonical_lines(rt: HostRuntime) -> Result<(), Fail> {
     let alloc = rt.alloc();
-    let line = canonical_of(alloc, b"  lockdown  add 0-4294967294 ")?;
-    assert_eq!(rt; line.as_slice(), b"lockdown add 0-4294967294\n".as_slice());
-    let line = canonical_of(alloc, b"lockdown remove 10-10")?;
-    assert_eq!(rt; line.as_slice(), b"lockdown remove 10-10\n".as_slice());
-    let line = canonical_of(alloc, b"packet 10050 0xd0064 2001:0DB8:0:0:0:0:0:1")?;
-    assert_eq!(rt;
-        line.as_slice(),
-        b"packet 10050 0xd0064 2001:db8::1\n".as_slice()
-    );
-    let line = canonical_of(alloc, b"show  rules 6")?;
-    assert_eq!(rt; line.as_slice(), b"show rules 6\n".as_slice());
+    let rows: [(&[u8], &[u8]); 15] = [
+        (
+            b"  lockdown  add 0-4294967294 ",
+            b"lockdown add 0-4294967294\n",
+        ),
+        (b"lockdown remove 10-10", b"lockdown remove 10-10\n"),
+        (
+            b"packet 10050 0xd0064 2001:0DB8:0:0:0:0:0:1",
+            b"packet 10050 0xd0064 2001:db8::1\n",
+        ),
+        (
+            b"packet 0 0x0 1.2.3.4  on rmnet_data0",
+            b"packet 0 0x0 1.2.3.4 on rmnet_data0\n",
+        ),
+        (b"show  rules 6", b"show rules 6\n"),
+        (b"show table 4294967295 ", b"show table 4294967295\n"),
+        (b" show networks", b"show networks\n"),
+        (b"  link  add wlan0 3", b"link add wlan0 3\n"),
+        (
+            b"network create  65535 physical system",
+            b"network create 65535 physical system\n",
+        ),
+        (
+            b"permission network 99  network",
+            b"permission network 99 network\n",
+        ),
+        (
+            b"route add 100 wlan0 2001:0DB8:0:0:0:0:0:0/32 via FE80::1",
+            b"route add 100 wlan0 2001:db8::/32 via fe80::1\n",
+        ),
+        (
+            b"route add 0 w0 0.0.0.0/0 unreachable",
+            b"route add 0 w0 0.0.0.0/0 unreachable\n",
+        ),
+        (
+            b"route add 0 w0 10.0.0.0/8  throw",
+            b"route add 0 w0 10.0.0.0/8 throw\n",
+        ),
+        (
+            b"route remove 100 wlan0 ::1/128",
+            b"route remove 100 wlan0 ::1/128\n",
+        ),
+        (
+            b"route remove 100 wlan0 ::/0 special ",
+            b"route remove 100 wlan0 ::/0 special\n",
+        ),
+    ];
+    for (text, canonical) in rows {
+        assert_eq!(rt; canonical_of(alloc, text)?.as_slice(), canonical);
+    }
     Ok(())
 }

@@ -17,5 +17,29 @@ pub fn packet(mut words: Words<'_>) -> Result<Line, LineFault>
     let mark = words.mark()?;
     let dest = words.addr()?;
     words.end()?;
-    Ok(Line::Trace(TraceLine::Made { uid, mark, dest }))
+    Ok(Line::Trace(TraceLine::Made {
+        uid,
+        mark,
+        dest,
+        link: None,
+    }))
+}
+
+/// `packet UID MARK ADDR on NAME`
+pub fn packet_on(mut words: Words<'_>) -> Result<Line, LineFault>
+    ensures { Reads form.PacketOn words.entry result }
+{
+    words.literal(b"packet")?;
+    let uid = words.uid()?;
+    let mark = words.mark()?;
+    let dest = words.addr()?;
+    words.literal(b"on")?;
+    let link = words.name()?;
+    words.end()?;
+    Ok(Line::Trace(TraceLine::Made {
+        uid,
+        mark,
+        dest,
+        link: Some(link),
+    }))
 }

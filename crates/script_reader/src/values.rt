@@ -3,18 +3,78 @@ ghost use Rattle.std.specs.Prelude.{◌≡◌, ◌∷◌, ◌++◌, false, ℕ, 
 ghost use Rattle.addr_text.specs.Forms.{has_byte};
 ghost use Rattle.number_text.specs.Numbers.{SpellsHexadecimal};
 ghost use Rattle.script_reader.specs.Cursor.{Gives};
-ghost use Rattle.script_reader.specs.Grammar.{addr, dash, literal, mark, range, uid};
+ghost use Rattle.script_reader.specs.Grammar.{addr, any_net, count, dash, index, literal, mark, name, net, permission, prefix, range, table, uid};
 
-use addr_text::read_addr;
+use addr_text::{read_addr, read_prefix};
+use fwmark::Permission;
+use net_names::Name;
 use number_text::{read_decimal, read_hexadecimal};
-use prefixes::Addr;
+use prefixes::{Addr, Prefix};
 use uid_ranges::{Uid, UidRange};
+
+/// The id of the local network.
+const LOCAL_ID: u16 = 99;
 
 /// Whether the word is this text.
 pub fn read_literal(word: &[u8], text: &[u8]) -> Option<()>
     ensures { Gives (literal text.now) word.now result }
 {
     if word == text { Some(()) } else { None }
+}
+
+/// The index of a link that the word spells.
+pub fn read_index(word: &[u8]) -> Option<u16>
+    ensures { Gives (count index) word.now result }
+{
+    let number = read_decimal(word, 65535)?;
+    if number < 2 {
+        return None;
+    }
+    Some(number as u16)
+}
+
+/// The id of a network that the word spells.
+pub fn read_any_net(word: &[u8]) -> Option<u16>
+    ensures { Gives (count any_net) word.now result }
+{
+    Some(read_decimal(word, 65535)? as u16)
+}
+
+/// The id of a network other than the local one that the word spells.
+pub fn read_net(word: &[u8]) -> Option<u16>
+    ensures { Gives (count net) word.now result }
+{
+    let id = read_any_net(word)?;
+    if id == LOCAL_ID {
+        return None;
+    }
+    Some(id)
+}
+
+/// The number of a table that the word spells.
+pub fn read_table(word: &[u8]) -> Option<u32>
+    ensures { Gives (count table) word.now result }
+{
+    Some(read_decimal(word, 4_294_967_295)? as u32)
+}
+
+/// The name that the word spells.
+pub fn read_name(word: &[u8]) -> Option<Name>
+    ensures { Gives name word.now result }
+{
+    Name::from_bytes(word)
+}
+
+/// The permission that the word spells.
+pub fn read_permission(word: &[u8]) -> Option<Permission>
+    ensures { Gives permission word.now result }
+{
+    match word {
+        b"none" => Some(Permission::Nothing),
+        b"network" => Some(Permission::Network),
+        b"system" => Some(Permission::System),
+        _ => None,
+    }
 }
 
 /// The UID that the word spells.
@@ -80,4 +140,11 @@ pub fn read_address(word: &[u8]) -> Option<Addr>
     ensures { Gives addr word.now result }
 {
     read_addr(word)
+}
+
+/// The prefix that the word spells.
+pub fn read_destination(word: &[u8]) -> Option<Prefix>
+    ensures { Gives prefix word.now result }
+{
+    read_prefix(word)
 }

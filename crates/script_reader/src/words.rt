@@ -3,8 +3,13 @@ ghost use Rattle.std.specs.List.{prefix_len};
 ghost use Rattle.script_reader.specs.Words.{is_no_space, is_space, words_from};
 
 use crate::fault::LineFault;
-use crate::values::{read_address, read_literal, read_mark, read_range, read_uid};
-use prefixes::Addr;
+use crate::values::{
+    read_address, read_any_net, read_destination, read_index, read_literal, read_mark, read_name,
+    read_net, read_permission, read_range, read_table, read_uid,
+};
+use fwmark::Permission;
+use net_names::Name;
+use prefixes::{Addr, Prefix};
 use uid_ranges::{Uid, UidRange};
 
 const SPACE: u8 = b' ';
@@ -58,7 +63,7 @@ pub struct Words<'a> {
 
 impl<'a> Words<'a> {
     ghost use Rattle.script_reader.specs.Cursor.{end_of, words_left, Ends, IsAtEnd, IsNext, Leads, Steps};
-    ghost use Rattle.script_reader.specs.Grammar.{addr, literal, mark, range, uid};
+    ghost use Rattle.script_reader.specs.Grammar.{addr, any_net, count, index, literal, mark, name, net, permission, prefix, range, table, uid};
     ghost use Rattle.script_reader.specs.Lines.{IsBlank};
     ghost use Rattle.script_reader.specs.Words.{texts, words_of};
 
@@ -129,6 +134,66 @@ impl<'a> Words<'a> {
         }
     }
 
+    /// Goes over the index of a link.
+    pub fn index(&mut self) -> Result<u16, LineFault>
+        ensures { Steps (count index) self.old self.new result }
+    {
+        match self.first() {
+            None => Err(self.bad()),
+            Some(word) => self.accept(read_index(word)),
+        }
+    }
+
+    /// Goes over the id of a network other than the local one.
+    pub fn net(&mut self) -> Result<u16, LineFault>
+        ensures { Steps (count net) self.old self.new result }
+    {
+        match self.first() {
+            None => Err(self.bad()),
+            Some(word) => self.accept(read_net(word)),
+        }
+    }
+
+    /// Goes over the id of a network.
+    pub fn any_net(&mut self) -> Result<u16, LineFault>
+        ensures { Steps (count any_net) self.old self.new result }
+    {
+        match self.first() {
+            None => Err(self.bad()),
+            Some(word) => self.accept(read_any_net(word)),
+        }
+    }
+
+    /// Goes over the number of a table.
+    pub fn table(&mut self) -> Result<u32, LineFault>
+        ensures { Steps (count table) self.old self.new result }
+    {
+        match self.first() {
+            None => Err(self.bad()),
+            Some(word) => self.accept(read_table(word)),
+        }
+    }
+
+    /// Goes over a name.
+    pub fn name(&mut self) -> Result<Name, LineFault>
+        ensures { Steps name self.old self.new result }
+    {
+        match self.first() {
+            None => Err(self.bad()),
+            Some(word) => self.accept(read_name(word)),
+        }
+    }
+
+    /// Goes over a permission.
+    pub fn permission(&mut self) -> Result<Permission, LineFault>
+        ensures { Steps permission self.old self.new result }
+    {
+        match self.first() {
+            None => Err(self.bad()),
+            Some(word) => self.accept(read_permission(word)),
+        }
+    }
+
     /// Goes over a UID.
     pub fn uid(&mut self) -> Result<Uid, LineFault>
         ensures { Steps uid self.old self.new result }
@@ -166,6 +231,16 @@ impl<'a> Words<'a> {
         match self.first() {
             None => Err(self.bad()),
             Some(word) => self.accept(read_address(word)),
+        }
+    }
+
+    /// Goes over a prefix.
+    pub fn prefix(&mut self) -> Result<Prefix, LineFault>
+        ensures { Steps prefix self.old self.new result }
+    {
+        match self.first() {
+            None => Err(self.bad()),
+            Some(word) => self.accept(read_destination(word)),
         }
     }
 

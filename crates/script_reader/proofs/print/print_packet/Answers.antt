@@ -3,7 +3,7 @@ use Rattle.std.specs.Fmt.{decimal}
 use Rattle.addr_text.specs.Canonical.{canonical}
 use Rattle.number_text.proofs.Appending.{both, rewritten}
 use Rattle.script_reader.specs.Canonical.{mark_text}
-use Rattle.script_reader.proofs.print.print_made.Goals as goal
+use Rattle.script_reader.proofs.print.print_packet.Goals as goal
 
 regrouped : (user bits dest : List ℕ) →
     ((((codes "packet " ++ user) ++ 32 ∷ []) ++ bits) ++ 32 ∷ []) ++ dest ≡ codes "packet" ++ 32 ∷ (user ++ 32 ∷ (bits ++ 32 ∷ dest))
