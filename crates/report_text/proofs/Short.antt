@@ -1,5 +1,5 @@
--- How long the text of a verdict is.
-use Rattle.std.proofs.Common.{ℕ, ◌+◌, ◌<◌, ◌≤◌, ◌^◌, ◌==◌, Bool, true, false, cond, List, ◌++◌, codes, length, Option, None, Some, Result, Ok, Err, IsOk, vec_len, vec_capacity, refl, arith, length-append}
+-- How long the texts of a link and of a verdict are.
+use Rattle.std.proofs.Common.{ℕ, ◌+◌, ◌<◌, ◌≤◌, ◌^◌, List, ◌++◌, codes, length, Option, None, Some, Result, Ok, Err, IsOk, vec_len, vec_capacity, refl, arith, length-append}
 use Rattle.std.specs.Fmt.{decimal}
 use Rattle.std.specs.declared.alloc.Global.{Global}
 use Rattle.std.specs.declared.vec.Vec.{Vec}
@@ -13,20 +13,17 @@ use Rattle.rule_match.specs.declared.verdict.Verdict.TheVariants as verdict
 use Rattle.report_text.specs.Links.{link_text}
 use Rattle.report_text.specs.Verdicts.{gateway_text, verdict_text}
 
-link-length : (state : StateView) (link : ℕ) → link < 2 ^ 16 → length (link_text state link) ≤ 6
-link-length state link fits = by (link == 1)
-  where
-    by : (b : Bool) → length (cond b (codes "lo") (codes "#" ++ decimal link)) ≤ 6
-    by true = omega arith
-    by false = let digits : length (decimal link) ≤ 5 = length-digits-le 10 5 link (omega arith) (omega arith) (omega arith) (omega arith) in omega arith
+-- the index of a link that is gone
+pub index-length : (link : ℕ) → link < 2 ^ 16 → length (codes "#" ++ decimal link) ≤ 15
+index-length link fits =
+    let digits : length (decimal link) ≤ 5 = length-digits-le 10 5 link (omega arith) (omega arith) (omega arith) (omega arith) in omega arith
 
 gateway-length : (gateway : Option Addr) → length (gateway_text gateway) ≤ 44
 gateway-length None = omega arith
 gateway-length (Some gateway) = let short : length (canonical gateway) ≤ 39 = canonical-length gateway in omega (arith, length-append (codes " via ") (canonical gateway))
 
-pub verdict-length : (state : StateView) (link : ℕ) (gateway : Option Addr) → link < 2 ^ 16 → length (verdict_text state (verdict.Out link gateway)) ≤ 64
-verdict-length state link gateway fits =
-    let name : length (link_text state link) ≤ 6 = link-length state link fits in
+pub verdict-length : (state : StateView) (link : ℕ) (gateway : Option Addr) → length (link_text state link) ≤ 15 → length (verdict_text state (verdict.Out link gateway)) ≤ 64
+verdict-length state link gateway short =
     let by_way : length (gateway_text gateway) ≤ 44 = gateway-length gateway in
     omega (arith, length-append (codes "out " ++ link_text state link) (gateway_text gateway), length-append (codes "out ") (link_text state link))
 

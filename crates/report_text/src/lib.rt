@@ -1,14 +1,18 @@
-//! What is printed of verdicts, trails and rules.
+//! What is printed of verdicts, trails, rules, routes and networks.
 #![tactic(auto)]
 
 mod link;
+mod network;
 mod rule;
 mod rules;
+mod table;
 mod trail;
 mod verdict;
 
+pub use network::write_networks;
 pub use rule::write_rule;
 pub use rules::write_rules;
+pub use table::write_table;
 pub use trail::write_trail;
 pub use verdict::write_verdict;
 

@@ -1,12 +1,16 @@
 use super::*;
+use crate::network::write_network;
+use crate::table::write_route;
 use crate::trail::write_step;
+use fwmark::Permission;
 use kernel_model::Step;
+use networks::{Kind, LinkRoutes, Links, Network};
 use policy_state::State;
-use prefixes::Addr;
+use prefixes::{Addr, Out, Prefix, Route};
 use rule_match::{Action, Rule, Verdict};
 use std::alloc::Global;
 use std::test::Fail;
-use uid_ranges::{Uid, UidRange};
+use uid_ranges::{RangeList, Uid, UidRange};
 
 fn verdict_text(alloc: Global, verdict: &Verdict) -> Result<Vec<u8>, Fail> {
     let state = State::start(alloc)?;
@@ -110,6 +114,115 @@ fn steps(rt: HostRuntime) -> Result<(), Fail> {
     assert_eq!(rt;
         out.as_slice(),
         b"  0 lookup 255\n  12500 prohibit\n".as_slice()
+    );
+    Ok(())
+}
+
+fn route_text(alloc: Global, base: Addr, len: u8, out: Out) -> Result<Vec<u8>, Fail> {
+    let state = State::start(alloc)?;
+    let prefix = Prefix::new(base, len).ok_or("a prefix")?;
+    let mut text = Vec::new(alloc);
+    write_route(&state, &Route { prefix, out }, &mut text)?;
+    Ok(text)
+}
+
+#[test]
+fn routes(rt: HostRuntime) -> Result<(), Fail> {
+    let alloc = rt.alloc();
+    let gateway = None;
+    let out = Out::Dev { link: 1, gateway };
+    let text = route_text(alloc, Addr::V4(0x7f00_0000), 8, out)?;
+    assert_eq!(rt; text.as_slice(), b"127.0.0.0/8 dev lo".as_slice());
+    let text = route_text(alloc, Addr::V6(1), 128, out)?;
+    assert_eq!(rt; text.as_slice(), b"::1/128 dev lo".as_slice());
+    let gateway = Some(Addr::V4(0xc0a8_0101));
+    let out = Out::Dev { link: 3, gateway };
+    let text = route_text(alloc, Addr::V4(0), 0, out)?;
+    assert_eq!(rt;
+        text.as_slice(),
+        b"0.0.0.0/0 via 192.168.1.1 dev #3".as_slice()
+    );
+    let text = route_text(alloc, Addr::V4(0x0a00_0000), 8, Out::Unreachable)?;
+    assert_eq!(rt; text.as_slice(), b"unreachable 10.0.0.0/8".as_slice());
+    let text = route_text(alloc, Addr::V6(0), 0, Out::Throw)?;
+    assert_eq!(rt; text.as_slice(), b"throw ::/0".as_slice());
+    Ok(())
+}
+
+fn network_text(alloc: Global, kind: Kind, links: &[u16]) -> Result<Vec<u8>, Fail> {
+    let state = State::start(alloc)?;
+    let mut interfaces = Links::empty(alloc);
+    for link in links {
+        interfaces = interfaces.with(*link)?;
+    }
+    let network = Network {
+        id: 100,
+        kind,
+        interfaces,
+        routes: LinkRoutes::empty(alloc),
+    };
+    let mut text = Vec::new(alloc);
+    write_network(&state, &network, &mut text)?;
+    Ok(text)
+}
+
+#[test]
+fn physical_networks(rt: HostRuntime) -> Result<(), Fail> {
+    let alloc = rt.alloc();
+    let permission = Permission::Nothing;
+    let text = network_text(alloc, Kind::Physical { permission }, &[3, 4])?;
+    assert_eq!(rt;
+        text.as_slice(),
+        b"100 physical none interfaces #3,#4".as_slice()
+    );
+    let permission = Permission::System;
+    let text = network_text(alloc, Kind::Physical { permission }, &[])?;
+    assert_eq!(rt;
+        text.as_slice(),
+        b"100 physical system interfaces -".as_slice()
+    );
+    Ok(())
+}
+
+#[test]
+fn virtual_networks(rt: HostRuntime) -> Result<(), Fail> {
+    let alloc = rt.alloc();
+    let none = RangeList::empty(alloc);
+    let first = Uid { number: 10000 };
+    let last = Uid { number: 19999 };
+    let alone = Uid { number: 20500 };
+    let ranges = none.with(&[
+        UidRange { first, last },
+        UidRange {
+            first: alone,
+            last: alone,
+        },
+    ])?;
+    let secure = true;
+    let text = network_text(alloc, Kind::Virtual { secure, ranges }, &[5])?;
+    assert_eq!(rt;
+        text.as_slice(),
+        b"100 virtual secure users 10000-19999,20500-20500 interfaces #5".as_slice()
+    );
+    let ranges = none;
+    let secure = false;
+    let text = network_text(alloc, Kind::Virtual { secure, ranges }, &[])?;
+    assert_eq!(rt;
+        text.as_slice(),
+        b"100 virtual bypassable users - interfaces -".as_slice()
+    );
+    Ok(())
+}
+
+#[test]
+fn networks_at_the_start(rt: HostRuntime) -> Result<(), Fail> {
+    let alloc = rt.alloc();
+    let state = State::start(alloc)?;
+    let mut text = Vec::new(alloc);
+    write_networks(&state, &mut text)?;
+    assert_eq!(rt;
+        text.as_slice(),
+        b"1 networks\n  99 local interfaces -\n".as_slice()
     );
     Ok(())
 }
