@@ -1,2 +1,8 @@
+pub mod Lists
+pub mod Nets
+pub mod Routes
+pub mod Reasons
+pub mod LinkLists
+pub mod Goodness
 pub mod PhysicalLinks
 pub mod Levels
