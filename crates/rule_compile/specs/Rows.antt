@@ -2,6 +2,7 @@
 use Rattle.std.specs.Prelude.{ℕ, ◌+◌, ◌*◌, List, length, map, filter, flat_map, Option, Some, None, if◌then◌else◌}
 use Rattle.std.specs.List.{filter_map}
 use Rattle.fwmark.specs.declared.permission.Permission.{Permission}
+use Rattle.fwmark.specs.declared.permission.Permission.TheVariants as needs
 use Rattle.networks.specs.declared.network.Network.{Network}
 use Rattle.rule_match.specs.declared.rule.Rule.{Rule}
 use Rattle.policy_state.specs.Table.{PhysicalLink, physical_links_of, is_free, root_interface_rule, explicit_rule, bound_rule, implicit_rule}
@@ -25,6 +26,12 @@ row_of_net which n = filter_map (rule_for which) (physical_links_of n)
 -- by network, in their order
 abbrev pub row_of : Row → List Network → List Rule
 row_of which networks = flat_map (row_of_net which) networks
+
+-- how many rules all these levels have for an interface of a network that asks for the permission
+abbrev pub rules_each : Permission → ℕ
+rules_each needs.Nothing = 4
+rules_each needs.Network = 3
+rules_each needs.System = 3
 
 -- how many rules all these levels have for a network
 abbrev pub count_for : Network → ℕ

@@ -9,7 +9,7 @@ ghost use Rattle.policy_state.specs.Table.{
   bound_rule,
   implicit_rule,
 };
-ghost use Rattle.rule_compile.specs.Rows.{physical_link, rule_for, row_of_net, row_of, count_for};
+ghost use Rattle.rule_compile.specs.Rows.{physical_link, rule_for, row_of_net, row_of, rules_each, count_for};
 
 use fwmark::Permission;
 use networks::{Kind, Network, Networks};
@@ -173,6 +173,17 @@ pub(crate) fn add_row(rules: &mut Vec<Rule>, row: Row, networks: &Networks) -> R
     Ok(())
 }
 
+/// How many rules all these levels have for an interface of a network that asks for the permission.
+fn rules_each(permission: Permission) -> u64
+    ensures value { result ≡ rules_each permission }
+    ensures few { result ≤ 4 }
+{
+    match permission {
+        Permission::Nothing => 4,
+        Permission::Network | Permission::System => 3,
+    }
+}
+
 /// How many rules all these levels have for a network.
 pub(crate) fn count_for(network: &Network) -> u64
     requires few { length network.now.interfaces ≤ 8 }
@@ -181,11 +192,7 @@ pub(crate) fn count_for(network: &Network) -> u64
 {
     match &network.kind {
         Kind::Physical { permission } => {
-            let each = match permission {
-                Permission::Nothing => 4,
-                Permission::Network | Permission::System => 3,
-            };
-            each * network.interfaces.as_slice().len() as u64
+            rules_each(*permission) * network.interfaces.as_slice().len() as u64
         }
         Kind::Local | Kind::Virtual { .. } => 0,
     }
