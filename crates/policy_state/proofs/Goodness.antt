@@ -26,8 +26,8 @@ use Rattle.policy_state.specs.declared.command.Way.{Way}
 use Rattle.policy_state.proofs.Lists.{all-push, all-weaker, all-insert, are_distinct-push, are_distinct-insert, none-map}
 use Rattle.policy_state.proofs.LinkLists.{links-add, links-remove, index_kept, may_be_interface}
 use Rattle.policy_state.proofs.Nets.{Standing, standing, all_links, with_change, links_around, linked_nowhere, not_local-linked, is_physical_there, good_networks-changed, good_networks-same_links}
-use Rattle.policy_state.proofs.Reasons.{none_holds, some_there, link_there, of_link-at, changed_by_link-at, is_in-at, is_full-at, routes_at-at, is_physical-at}
-use Rattle.policy_state.proofs.Routes.{physical-with_route, physical-without_route}
+use Rattle.policy_state.proofs.Accepted.{none_holds, some_there, link_there, of_link-at, changed_by_link-at, is_in-at, is_full-at, routes_at-at, is_physical-at}
+use Rattle.policy_state.proofs.RouteLists.{physical-with_route, physical-without_route}
 
 pub good-start : IsGood start
 good-start = record {

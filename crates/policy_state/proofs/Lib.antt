@@ -1,7 +1,7 @@
 pub mod Lists
 pub mod Nets
-pub mod Routes
-pub mod Reasons
+pub mod RouteLists
+pub mod Accepted
 pub mod LinkLists
 pub mod Goodness
 pub mod PhysicalLinks

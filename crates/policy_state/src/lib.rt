@@ -4,6 +4,8 @@
 mod command;
 mod fault;
 mod link;
+mod reasons;
+mod routes;
 mod state;
 
 pub use command::{Command, Way};

@@ -1,8 +1,8 @@
 -- A network with one route more or less is still one that may stand in a state.
-use Rattle.std.proofs.Common.{◌≡◌, ℕ, ◌≤◌, ◌<◌, ◌==◌, ◌&&◌, Bool, true, false, cond, not, List, [], ◌∷◌, ◌++◌, map, filter, length, refl, sym, ap, subst, ◌∙◌, arith, inl, inr}
+use Rattle.std.proofs.Common.{◌≡◌, ℕ, ◌≤◌, ◌<◌, ◌==◌, ◌&&◌, ◌||◌, Bool, true, false, cond, not, List, [], ◌∷◌, ◌++◌, map, filter, length, refl, sym, ap, subst, ◌∙◌, arith, inl, inr}
 use Rattle.std.specs.List.{list_any}
 use Rattle.std.proofs.lemmas.Bool.{cases_Bool, and_from, and_parts, or_from, or_parts, not-true, not-false, not_from_false, eqb-true}
-use Rattle.std.proofs.lemmas.List.{map-append, append-nil, length-append}
+use Rattle.std.proofs.lemmas.List.{map-append, append-nil, length-append, length-map}
 use Rattle.std.proofs.lemmas.List.Elements.{filter-append}
 use Rattle.fib_table.specs.Table.{has_key, are_keys_distinct}
 use Rattle.fib_table.proofs.Keys.{are_keys_distinct-push}
@@ -118,3 +118,17 @@ physical-without_route n link key physical =
       keys_distinct = λ l. keys-filter stays l n.routes (physical.keys_distinct l);
       few_routes = λ l. omega (arith, length-routes_by stays l n.routes, physical.few_routes l);
     }
+
+-- the routes of an interface, as the tests of the code see them
+pub any-routes_by : (p : Route → Bool) (l : ℕ) (rs : List LinkRoute) → list_any p (routes_by l rs) ≡ list_any (λ r. (r.link == l) && p r.route) rs
+any-routes_by p l [] = refl
+any-routes_by p l (r ∷ rs) = by (r.link == l) (any-routes_by p l rs)
+  where
+    by : (b : Bool) → list_any p (routes_by l rs) ≡ list_any (λ (x : LinkRoute). (x.link == l) && p x.route) rs
+        → list_any p (map (λ (x : LinkRoute). x.route) (cond b (r ∷ filter (λ (x : LinkRoute). x.link == l) rs) (filter (λ (x : LinkRoute). x.link == l) rs)))
+        ≡ ((b && p r.route) || list_any (λ (x : LinkRoute). (x.link == l) && p x.route) rs)
+    by true rest = ap (λ b. p r.route || b) rest
+    by false rest = rest
+
+pub length-routes_by-filter : (l : ℕ) (rs : List LinkRoute) → length (routes_by l rs) ≡ length (filter (λ r. r.link == l) rs)
+length-routes_by-filter l rs = length-map (filter (λ r. r.link == l) rs) (λ r. r.route)
