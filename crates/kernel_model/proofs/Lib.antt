@@ -10,3 +10,4 @@ pub mod Stopped
 pub mod Switches
 pub mod Standing
 pub mod Segments
+pub mod Routes

@@ -1,6 +1,8 @@
 pub mod Middles
 pub mod Twins
 pub mod Rows
+pub mod LinkRows
+pub mod Turns
 pub mod Levels
 pub mod Tables
 pub mod Asking

@@ -7,7 +7,8 @@ use Rattle.rule_law.specs.Rules as law
 use Rattle.rule_law.specs.Plans.{AreOldAndNew}
 use Rattle.kernel_model.specs.Kind.{rule_kind}
 use Rattle.kernel_model.specs.State.{start as kernel_start, rules_of, routes_of, own_rule}
-use Rattle.kernel_model.specs.Stands.{Stands, routes_in}
+use Rattle.fib_table.specs.Table.{routes_in}
+use Rattle.kernel_model.specs.Stands.{Stands}
 use Rattle.kernel_model.specs.Switch.{IsSwitch}
 use Rattle.policy_state.specs.Table.{rule_table}
 use Rattle.policy_state.specs.View.{start}

@@ -1,3 +1,4 @@
 pub mod Middles
+pub mod Rows
 pub mod Asked
 pub mod Distinct

@@ -4,7 +4,9 @@
 
 mod difference;
 mod laws;
+mod link_rules;
 mod requests;
+mod routes;
 mod start;
 mod table;
 

@@ -1,11 +1,14 @@
-ghost use Rattle.std.specs.Prelude.{◌≡◌, ◌+◌, ◌*◌, ◌++◌, IfOk, List, reverse};
-ghost use Rattle.kernel_model.specs.Switch.{twins};
+ghost use Rattle.std.specs.Prelude.{◌≡◌, ◌+◌, ◌*◌, ◌++◌, [], None, IfOk, List, reverse};
+ghost use Rattle.kernel_model.specs.Switch.{twins, additions, deletions};
+ghost use Rattle.policy_state.specs.Step.{refusal, changed};
+ghost use Rattle.policy_state.specs.Table.{rule_table};
 ghost use Rattle.rule_compile.specs.Asked.{asked};
 
 use crate::difference::{beyond, middles};
+use crate::routes::{route_that_comes, route_that_goes};
 use crate::table::rules;
 use kernel_model::{Plan, Request};
-use policy_state::State;
+use policy_state::{Command, State};
 use prefixes::Family;
 use rule_match::Rule;
 use std::alloc::{AllocError, Global};
@@ -28,9 +31,12 @@ pub(crate) fn twins(alloc: Global, rules: &[Rule]) -> Result<Vec<Request>, Alloc
     Ok(requests)
 }
 
-/// What a kernel that stands for the old state is asked, in order, so that it stands for the new one.
-pub fn plan(alloc: Global, old: &State, new: &State) -> Result<Plan, AllocError>
-    ensures { IfOk result (λ plan. plan ≡ asked old.now new.now) }
+/// What brings a kernel from the rules of one state to those of another.
+fn change_rules(alloc: Global, old: &State, new: &State) -> Result<Plan, AllocError>
+    ensures { IfOk result (λ plan. plan ≡ record {
+        adds = additions (rule_table old.now) (rule_table new.now);
+        deletes = deletions (rule_table old.now) (rule_table new.now) []
+    }) }
 {
     let old_rules = rules(alloc, old)?;
     let new_rules = rules(alloc, new)?;
@@ -39,4 +45,30 @@ pub fn plan(alloc: Global, old: &State, new: &State) -> Result<Plan, AllocError>
     let mut deletes = twins(alloc, &beyond(alloc, new_part, old_part)?)?;
     deletes.reverse();
     Ok(Plan::of(adds, deletes))
+}
+
+/// What a kernel that stands for the old state is asked, in order, so that it stands for the new one: one route, or rules.
+pub fn plan(alloc: Global, old: &State, new: &State, command: &Command) -> Result<Plan, AllocError>
+    requires accepted { refusal old.now command.now ≡ None }
+    requires new { new.now ≡ changed old.now command.now }
+    ensures { IfOk result (λ plan. plan ≡ asked old.now command.now) }
+{
+    match command {
+        Command::RouteAdd {
+            name, prefix, way, ..
+        } => {
+            let adds = route_that_comes(alloc, old, name, *prefix, *way)?;
+            Ok(Plan::of(adds, Vec::new(alloc)))
+        }
+        Command::RouteRemove {
+            net,
+            name,
+            prefix,
+            special,
+        } => {
+            let deletes = route_that_goes(alloc, old, *net, name, *prefix, *special)?;
+            Ok(Plan::of(Vec::new(alloc), deletes))
+        }
+        _ => change_rules(alloc, old, new),
+    }
 }

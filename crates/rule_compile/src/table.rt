@@ -3,19 +3,14 @@ ghost use Rattle.kernel_model.specs.Kind.{rule_kind};
 ghost use Rattle.rule_law.specs.Rules.{HasEachOnce};
 ghost use Rattle.policy_state.specs.Table.{lockdown_rule, explicit_local_rule, local_rule, last_rule, rule_table};
 
+use crate::link_rules::{EXPLICIT, EXPLICIT_PRIORITY, LOOPBACK, Row, SELECTION, add_row, count_for};
 use policy_state::State;
 use rule_match::{Action, Rule};
 use std::alloc::{AllocError, Global};
 use uid_ranges::{RangeList, UidRange};
 
-/// The link `lo`, by which the packets come that the device made.
-const LOOPBACK: u16 = 1;
-
 /// The table of the local network.
 const LOCAL_TABLE: u32 = 97;
-
-/// The bit of a mark that selects a network explicitly.
-const EXPLICIT: u32 = 0x10000;
 
 /// The bit of a mark that keeps a packet from VPNs and from lockdown.
 const PROTECTED: u32 = 0x20000;
@@ -23,11 +18,7 @@ const PROTECTED: u32 = 0x20000;
 /// A packet's mark selects this network explicitly, by these bits and the id.
 const SELECTS_LOCAL: u32 = 0x10063;
 
-const SELECTION: u32 = 0x1ffff;
-
 const LOCKDOWN_PRIORITY: u32 = 12500;
-
-const EXPLICIT_PRIORITY: u32 = 13000;
 
 const LOCAL_PRIORITY: u32 = 17000;
 
@@ -107,10 +98,15 @@ pub fn rules(alloc: Global, state: &State) -> Result<Vec<Rule>, AllocError>
     // no rule stands twice
     ensures once { OnOk result (HasEachOnce rule_kind (rule_table state.now)) }
 {
+    let networks = state.networks();
     let mut rules = Vec::new(alloc);
+    add_row(&mut rules, Row::RootInterface, networks)?;
     add_lockdown_rules(&mut rules, state.lockdown())?;
+    add_row(&mut rules, Row::Explicit, networks)?;
     rules.push(explicit_local_rule())?;
+    add_row(&mut rules, Row::BoundInterface, networks)?;
     rules.push(local_rule())?;
+    add_row(&mut rules, Row::Implicit, networks)?;
     rules.push(last_rule())?;
     Ok(rules)
 }
@@ -119,5 +115,12 @@ pub fn rules(alloc: Global, state: &State) -> Result<Vec<Rule>, AllocError>
 pub fn rule_count(state: &State) -> u64
     ensures { result ≡ length (rule_table state.now) }
 {
-    state.lockdown().len() as u64 + 3
+    let networks = state.networks();
+    let mut count = state.lockdown().len() as u64 + 3;
+    for place in 0..networks.len() {
+        if let Some(network) = networks.at(place) {
+            count += count_for(network);
+        }
+    }
+    count
 }

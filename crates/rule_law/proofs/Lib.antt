@@ -12,6 +12,7 @@ pub mod Walks
 pub mod Law
 pub mod Statements
 pub mod Turning
+pub mod Unlike
 pub mod Keys
 pub mod Beside
 pub mod Asking

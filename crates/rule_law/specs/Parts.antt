@@ -14,6 +14,15 @@ TurnsInto {R = R} k old new =
 abbrev pub AreUnlike : {R : Type 0} → Kind R → List R → List R → Type 0
 AreUnlike {R = R} k xs ys = (x y : R) → has k xs x ≡ true → has k ys y ≡ true → k.alike x y ≡ false
 
+-- no two rules of the list pass the test
+abbrev pub AreEachApart : {R : Type 0} → Kind R → (R → R → Bool) → List R → Type 0
+AreEachApart k test [] = Unit {0}
+AreEachApart {R = R} k test (x ∷ xs) = ((y : R) → has k xs y ≡ true → test x y ≡ false) × AreEachApart k test xs
+
+-- no two rules of the list have equal priority and equal selectors
+abbrev pub AreEachUnlike : {R : Type 0} → Kind R → List R → Type 0
+AreEachUnlike k xs = AreEachApart k k.alike xs
+
 -- no two rules of the two lists have equal priority and give the packet something
 abbrev pub DoNotMeet : {R V : Type 0} → Kind R → (R → Option V) → List R → List R → Type 0
 DoNotMeet {R = R} k gives xs ys =

@@ -40,6 +40,7 @@ ghost use Rattle.rule_law.specs.Plans.{
 ghost use Rattle.rule_law.specs.Parts.{
   TurnsInto,
   AreUnlike,
+  AreEachUnlike,
   DoNotMeet,
   EachPart,
   HaveDistinctKeys,
@@ -179,6 +180,12 @@ pub fn rows_go<R>()
 /// Rows turn into others with which they have no rule in common.
 pub fn rows_are_replaced<R>()
     ensures { (k : Kind R) (old new : List R) → AreAbsent k old new → TurnsInto k old new }
+{}
+
+/// Rows turn into any others of which no two have equal priority and equal selectors.
+pub fn rows_are_unlike<R>()
+    ensures { (k : Kind R) (old new : List R)
+        → HasEachOnce k old → AreEachUnlike k new → TurnsInto k old new }
 {}
 
 /// Two parts side by side turn as each does, where no rule of the one has the priority and the selectors of a rule of the

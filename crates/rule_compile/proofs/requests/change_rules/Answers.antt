@@ -11,7 +11,7 @@ use Rattle.kernel_model.specs.Switch.{twins}
 use Rattle.rule_compile.specs.Asked.{asked_adds, asked_deletes}
 use Rattle.rule_compile.specs.Middles.{AreMiddles}
 use Rattle.rule_compile.proofs.Middles.{beyond-middles, middles-turned}
-use Rattle.rule_compile.proofs.requests.plan.Goals as goal
+use Rattle.rule_compile.proofs.requests.change_rules.Goals as goal
 
 difference : (one other old new in_old in_new : List Rule) → old ≡ one → new ≡ other → AreMiddles old new in_old in_new → HasEachOnce rule_kind other
     → beyond rule_kind in_old in_new ≡ beyond rule_kind one other

@@ -1,0 +1,105 @@
+//! The route that a command adds or takes out, as a request.
+ghost use Rattle.std.specs.Prelude.{◌≡◌, ℕ, IfOk};
+ghost use Rattle.kernel_model.specs.Switch.{requests_of};
+ghost use Rattle.policy_state.specs.Step.{out_of, key_of, is_keyed_by};
+ghost use Rattle.policy_state.specs.declared.command.Command.TheVariants.{RouteAdd, RouteRemove};
+ghost use Rattle.rule_compile.specs.Asked.{routes_come, routes_gone};
+
+use crate::link_rules::link_table;
+use kernel_model::Request;
+use net_names::Name;
+use networks::LinkRoute;
+use policy_state::{State, Way};
+use prefixes::{Out, Prefix, Route, same_key};
+use std::alloc::{AllocError, Global};
+
+fn out_of(link: u16, way: Way) -> Out
+    ensures { result ≡ out_of link way }
+{
+    match way {
+        Way::Direct => Out::Dev {
+            link,
+            gateway: None,
+        },
+        Way::Via(gateway) => Out::Dev {
+            link,
+            gateway: Some(gateway),
+        },
+        Way::Unreachable => Out::Unreachable,
+        Way::Throw => Out::Throw,
+    }
+}
+
+fn key_of(link: u16, prefix: Prefix, special: bool) -> Route
+    ensures { result ≡ key_of link prefix special }
+{
+    let out = if special {
+        Out::Unreachable
+    } else {
+        Out::Dev {
+            link,
+            gateway: None,
+        }
+    };
+    Route { prefix, out }
+}
+
+fn is_keyed_by(route: &LinkRoute, link: u16, key: &Route) -> bool
+    ensures { result ≡ is_keyed_by link key.now route.now }
+{
+    route.link == link && same_key(&route.route, key)
+}
+
+/// What asks for the route that a command adds, with the table of the link of this name.
+pub(crate) fn route_that_comes(
+    alloc: Global,
+    state: &State,
+    name: &Name,
+    prefix: Prefix,
+    way: Way,
+) -> Result<Vec<Request>, AllocError>
+    ensures { (net : ℕ) → IfOk result (λ requests. requests.items ≡ requests_of (routes_come state.now (RouteAdd net name.now prefix way))) }
+{
+    let mut requests = Vec::new(alloc);
+    if let Some(link) = state.link_named(name) {
+        let route = Route {
+            prefix,
+            out: out_of(link, way),
+        };
+        requests.push(Request::Route {
+            table: link_table(link),
+            route,
+        })?;
+    }
+    Ok(requests)
+}
+
+/// What asks for the route of a network's link that has the key.
+pub(crate) fn route_that_goes(
+    alloc: Global,
+    state: &State,
+    net: u16,
+    name: &Name,
+    prefix: Prefix,
+    special: bool,
+) -> Result<Vec<Request>, AllocError>
+    ensures { IfOk result (λ requests. requests.items ≡ requests_of (routes_gone state.now (RouteRemove net name.now prefix special))) }
+{
+    let mut requests = Vec::new(alloc);
+    let Some(link) = state.link_named(name) else {
+        return Ok(requests);
+    };
+    let Some(network) = state.networks().get(net) else {
+        return Ok(requests);
+    };
+    let key = key_of(link, prefix, special);
+    for route in network.routes.as_slice() {
+        if is_keyed_by(route, link, &key) {
+            requests.push(Request::Route {
+                table: link_table(link),
+                route: route.route,
+            })?;
+        }
+    }
+    Ok(requests)
+}
