@@ -181,7 +181,13 @@ impl State {
         self.with_network(network)
     }
 
-    fn route_added(&self, net: u16, name: &Name, prefix: Prefix, way: Way) -> Result<State, AllocError>
+    fn route_added(
+        &self,
+        net: u16,
+        name: &Name,
+        prefix: Prefix,
+        way: Way,
+    ) -> Result<State, AllocError>
         requires { step.refusal self.now (Command.RouteAdd net name.now prefix way) ≡ None }
         ensures { IfOk result (λ state. state ≡ step.changed self.now (Command.RouteAdd net name.now prefix way)) }
     {
@@ -195,7 +201,13 @@ impl State {
         self.with_network(network)
     }
 
-    fn route_removed(&self, net: u16, name: &Name, prefix: Prefix, special: bool) -> Result<State, AllocError>
+    fn route_removed(
+        &self,
+        net: u16,
+        name: &Name,
+        prefix: Prefix,
+        special: bool,
+    ) -> Result<State, AllocError>
         requires { step.refusal self.now (Command.RouteRemove net name.now prefix special) ≡ None }
         ensures { IfOk result (λ state. state ≡ step.changed self.now (Command.RouteRemove net name.now prefix special)) }
     {

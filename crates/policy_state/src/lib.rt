@@ -8,6 +8,7 @@ mod link;
 mod reasons;
 mod routes;
 mod state;
+mod step;
 
 pub use command::{Command, Way};
 pub use fault::StepFault;

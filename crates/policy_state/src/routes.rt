@@ -7,7 +7,7 @@ ghost use Rattle.policy_state.specs.Step as step;
 
 use crate::command::Way;
 use networks::{LinkRoute, Network};
-use prefixes::{same_family, Out, Prefix, Route};
+use prefixes::{Out, Prefix, Route, same_family};
 
 // Where a route by this link goes.
 fn out_of(link: u16, way: Way) -> Out

@@ -1,9 +1,7 @@
-use Rattle.std.proofs.Common.{◌≡◌, ◌∙◌, subst, sym, ap, refl, Some, IfOk}
-use Rattle.networks.specs.Lists.{find_id, put_net}
-use Rattle.networks.specs.declared.network.Network.{Network}
-use Rattle.policy_state.specs.Step.{changed, with_link}
-use Rattle.policy_state.specs.View.{StateView, IsGood, link_named}
-use Rattle.policy_state.specs.declared.command.Command.{Command}
+use Rattle.std.proofs.Common.{◌≡◌, ◌∙◌, subst, sym, ap, Some, IfOk}
+use Rattle.networks.specs.Lists.{find_id}
+use Rattle.policy_state.specs.Step.{with_link}
+use Rattle.policy_state.specs.View.{StateView, IsGood}
 use Rattle.policy_state.specs.declared.command.Command.TheVariants as command
 use Rattle.policy_state.proofs.Goodness.{good-changed}
 use Rattle.policy_state.proofs.Puts.{put-linked, with_link-id}

@@ -1,7 +1,4 @@
-use Rattle.std.proofs.Common.{◌≡◌, ◌∙◌, [], ◌∷◌, ◌++◌, subst, sym, ap, List, IfOk, arith}
-use Rattle.networks.specs.Lists.{put_net}
-use Rattle.networks.specs.declared.network.Kind.TheVariants as kind
-use Rattle.networks.specs.declared.network.Network.{Network}
+use Rattle.std.proofs.Common.{◌≡◌, subst, sym, IfOk, arith}
 use Rattle.policy_state.specs.View.{StateView, IsGood}
 use Rattle.policy_state.specs.declared.command.Command.TheVariants as command
 use Rattle.policy_state.proofs.Goodness.{good-changed}
