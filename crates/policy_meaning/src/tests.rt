@@ -1,31 +1,56 @@
 use crate::decide;
-use policy_state::{Command, State};
-use prefixes::Addr;
+use fwmark::Permission;
+use net_names::Name;
+use policy_state::{Command, State, Way};
+use prefixes::{Addr, Prefix};
 use rule_match::{Packet, Verdict};
 use std::process::Abort;
 use std::test::Fail;
 use uid_ranges::{Uid, UidRange};
 
+const DNS: Addr = Addr::V4(0x0808_0808);
+
 fn uid(rt: &impl Abort, number: u32) -> Uid {
     Uid::new(number).expect(rt, "a UID")
+}
+
+fn range(rt: &impl Abort, first: u32, last: u32) -> UidRange {
+    UidRange::new(uid(rt, first), uid(rt, last)).expect(rt, "a range")
+}
+
+// Network 100, with one interface and a default route.
+fn with_network(state: State, index: u16, permission: Permission, way: Way) -> Result<State, Fail> {
+    let name = Name::from_bytes(b"w").ok_or("a name")?;
+    let prefix = Prefix::new(Addr::V4(0), 0).ok_or("a prefix")?;
+    let state = state.step(&Command::LinkAdd { name, index })?;
+    let state = state.step(&Command::CreatePhysical {
+        net: 100,
+        permission,
+    })?;
+    let state = state.step(&Command::InterfaceAdd { net: 100, name })?;
+    let state = state.step(&Command::RouteAdd {
+        net: 100,
+        name,
+        prefix,
+        way,
+    })?;
+    Ok(state)
 }
 
 // Who is locked down reaches the device itself and nothing else, if its packet isn't protected.
 #[test]
 fn lockdown_guards(rt: HostRuntime) -> Result<(), Fail> {
-    let first = uid(&rt, 10000);
-    let last = uid(&rt, 19999);
-    let range = UidRange::new(first, last).expect(&rt, "a range");
-    let state = State::start(rt.alloc())?.step(&Command::LockdownAdd { range })?;
+    let state = State::start(rt.alloc())?.step(&Command::LockdownAdd {
+        range: range(&rt, 10000, 19999),
+    })?;
 
-    let far = Addr::V4(0x0808_0808);
     let protected = 0x20000;
     for (number, mark, dest, verdict) in [
-        (9999, 0, far, Verdict::Unreachable),
-        (10000, 0, far, Verdict::Prohibited),
-        (19999, 0, far, Verdict::Prohibited),
-        (20000, 0, far, Verdict::Unreachable),
-        (10000, protected, far, Verdict::Unreachable),
+        (9999, 0, DNS, Verdict::Unreachable),
+        (10000, 0, DNS, Verdict::Prohibited),
+        (19999, 0, DNS, Verdict::Prohibited),
+        (20000, 0, DNS, Verdict::Unreachable),
+        (10000, protected, DNS, Verdict::Unreachable),
         (10000, 0, Addr::V4(0x7fff_ffff), Verdict::Local),
         (10000, 0, Addr::V4(0x8000_0000), Verdict::Prohibited),
         (10000, 0, Addr::V6(1), Verdict::Local),
@@ -37,6 +62,58 @@ fn lockdown_guards(rt: HostRuntime) -> Result<(), Fail> {
             verdict,
             "of {number} with {mark} to {dest:?}"
         );
+    }
+    Ok(())
+}
+
+// A network that asks for a permission is reached by it alone, bound or chosen.
+#[test]
+fn a_network_asks_for_its_permission(rt: HostRuntime) -> Result<(), Fail> {
+    let state = with_network(
+        State::start(rt.alloc())?,
+        2,
+        Permission::Network,
+        Way::Direct,
+    )?;
+    let out = Verdict::Out {
+        link: 2,
+        gateway: None,
+    };
+    for (number, mark, bound, verdict) in [
+        (0, 0, Some(2), Verdict::Unreachable),
+        (0, 0x40000, Some(2), out),
+        (10050, 0x50064, None, out),
+        (10050, 0x10064, None, Verdict::Unreachable),
+    ] {
+        let packet = Packet::made(uid(&rt, number), mark, DNS, bound);
+        assert_eq!(rt; decide(&state, &packet), verdict, "of {number} with {mark}");
+    }
+    Ok(())
+}
+
+// Where all are locked down, root still reaches the interface to which it binds.
+#[test]
+fn root_under_lockdown(rt: HostRuntime) -> Result<(), Fail> {
+    let router = Addr::V4(0xc0a8_0101);
+    let open = with_network(
+        State::start(rt.alloc())?,
+        3,
+        Permission::Nothing,
+        Way::Via(router),
+    )?;
+    let out = Verdict::Out {
+        link: 3,
+        gateway: Some(router),
+    };
+    let named = Packet::made(uid(&rt, 10050), 0x64, DNS, None);
+    assert_eq!(rt; decide(&open, &named), out);
+
+    let locked = open.step(&Command::LockdownAdd {
+        range: range(&rt, 0, 4_294_967_294),
+    })?;
+    for (number, verdict) in [(0, out), (1000, Verdict::Prohibited)] {
+        let packet = Packet::made(uid(&rt, number), 0, DNS, Some(3));
+        assert_eq!(rt; decide(&locked, &packet), verdict, "of {number}");
     }
     Ok(())
 }
