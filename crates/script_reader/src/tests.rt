@@ -11,12 +11,19 @@ fn column_of(alloc: Global, text: &[u8]) -> Result<Option<u32>, AllocError> {
     }
 }
 
+/// The canonical text of a line.
+fn text_of(alloc: Global, line: &Line) -> Result<Vec<u8>, AllocError> {
+    let mut out = Vec::new(alloc);
+    print_line(line, &mut out)?;
+    Ok(out)
+}
+
 /// The canonical text of what is read.
 fn canonical_of(alloc: Global, text: &[u8]) -> Result<Vec<u8>, Fail> {
-    let line = read_line(alloc, text)?;
-    let mut out = Vec::new(alloc);
-    print_line(&line, &mut out)?;
-    Ok(out)
+    match read_line(alloc, text) {
+        Ok(line) => Ok(text_of(alloc, &line)?),
+        Err(fault) => Err(Fail::from(fault)),
+    }
 }
 
 #[test]
