@@ -13,7 +13,6 @@ ghost use Rattle.report_text.specs.NetworkTexts.{
 };
 ghost use Rattle.script_reader.specs.Canonical.{range_text};
 ghost use Rattle.std.specs.Prelude.{◌≡◌, ◌<◌, ◌∷◌, Some, drop, flat_map, length, slice_get};
-ghost use Rattle.std.specs.Option.{option_copied};
 ghost use Rattle.uid_ranges.specs.declared.range.UidRange.{UidRange};
 
 use crate::link::write_link;
