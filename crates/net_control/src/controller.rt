@@ -1,14 +1,16 @@
-ghost use Rattle.std.specs.Prelude.{◌≡◌, ◌≤◌, ◌<◌, ◌+◌, ◌*◌, [], None, OnOk, IfOk, MatchOption, length};
+ghost use Rattle.std.specs.Prelude.{◌≡◌, ◌≤◌, ◌<◌, ◌+◌, ◌*◌, ℕ, [], None, Some, OnOk, IfOk, MatchOption, length, slice_get};
 ghost use Rattle.net_control.specs.Limit.{journal_limit};
 ghost use Rattle.kernel_model.specs.View.{grown};
+ghost use Rattle.kernel_model.specs.declared.request.Request.TheVariants as req;
+ghost use Rattle.prefixes.specs.declared.route.Route.{Route};
 ghost use Rattle.policy_state.specs.View.{start};
 
-use kernel_model::{Kernel, Plan};
+use kernel_model::{Kernel, Plan, Request};
 use net_names::Code;
-use plan_exec::{Carried, carry, switch_may_be_carried};
+use plan_exec::{Carried, carry};
 use policy_meaning::{barred_stays_in, own_rule_means_start, table_means_policy};
 use policy_state::{Command, State, StepFault};
-use rule_compile::{plan, plan_ends, plan_law, start_law, start_plan};
+use rule_compile::{plan, plan_ends, plan_law, requests_can_be_asked, start_law, start_plan};
 use std::alloc::{AllocError, Global};
 use std::marker::Model;
 use thiserror::Error;
@@ -75,6 +77,20 @@ fn room_for<K: Kernel>(kernel: &K, plan: &Plan) -> Option<u64>
         return None;
     }
     Some(most)
+}
+
+// Makes room for this many requests, and where the plan adds a route, which is then all that it adds, for that one in its
+// table.
+fn make_room<K: Kernel>(kernel: &mut K, plan: &Plan, most: u64) -> Result<(), AllocError>
+    ensures seen { K.seen kernel.new ≡ K.seen kernel.old }
+    ensures spare { OnOk result (most ≤ (K.room kernel.new).spare) }
+    ensures ready { OnOk result ((n : ℕ) (route : Route) → slice_get plan.now.adds 0 ≡ Some (req.Route n route) → (K.room kernel.new).ready ≡ Some n) }
+{
+    kernel.reserve(most)?;
+    match plan.add_at(0) {
+        Some(Request::Route { table, .. }) => kernel.prepare(table),
+        Some(Request::Rule { .. }) | None => Ok(()),
+    }
 }
 
 impl Controller {
@@ -161,7 +177,7 @@ impl Controller {
             Err(StepFault::Refused { code }) => return Answer::Refused { code },
             Err(StepFault::Memory(_)) => return Answer::NoMemory,
         };
-        let plan = match plan(self.alloc, &self.state, &new) {
+        let plan = match plan(self.alloc, &self.state, &new, command) {
             Ok(plan) => plan,
             Err(_) => return Answer::NoMemory,
         };
@@ -170,10 +186,11 @@ impl Controller {
                 code: Code::NoSpace,
             };
         };
-        if let Err(_) = kernel.reserve(most) {
+        if let Err(_) = make_room(kernel, &plan, most) {
             return Answer::NoMemory;
         }
-        switch_may_be_carried();
+        command.fits_types();
+        requests_can_be_asked();
         plan_ends();
         match carry(&plan, kernel) {
             Carried::Done => {
@@ -199,6 +216,7 @@ impl Controller {
             None => self.take(kernel, command),
         }
     }
+
     /// Brings the kernel to the state that the command gives. The new state, the plan and the kernel's room are made
     /// first, so that nothing can want memory from the first request on. A controller that has halted asks nothing.
     pub fn apply<K: Kernel>(&mut self, kernel: &mut K, command: &Command) -> Answer
@@ -216,6 +234,7 @@ impl Controller {
         ensures moments { self.old.halted ≡ None → KeepsPolicy (K.seen kernel.old) (K.seen kernel.new) self.old.state (changed self.old.state command.now) }
         ensures locked { self.old.halted ≡ None → KeepsLockdown (K.seen kernel.old) (K.seen kernel.new) self.old.state (changed self.old.state command.now) }
     {
+        command.fits_types();
         plan_law();
         plan_ends();
         table_means_policy();

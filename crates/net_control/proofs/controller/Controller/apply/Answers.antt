@@ -19,12 +19,12 @@ returns-clause-moments g c running =
     let old = c.args.self.now in
     let command = c.args.command.now in
     let may : IsTaken old before command → MayStep (state_of before) old.state command =
-    λ taken. record { good = c.requires.good; accepted = accepted old before command taken; stands = c.requires.stands running } in
+    λ taken. record { good = c.requires.good; fits = c.fits_types.ensures; accepted = accepted old before command taken; stands = c.requires.stands running } in
     answered c.answer.result command old c.answer.new.self before (g.K.Kernel.seen c.answer.new.kernel)
     (λ packet. c.table_means_policy.ensures old.state (state_of before) packet c.requires.good (c.requires.stands running))
     (λ taken entries segment packet. by_policy (c.table_means_policy.ensures old.state (state_of before) packet c.requires.good (c.requires.stands running))
-    (c.table_means_policy.ensures (changed old.state command) (carried (state_of before) old.state (changed old.state command)) packet
-    (good-changed old.state command c.requires.good (accepted old before command taken)) (c.plan_ends.ensures.done (state_of before) old.state command (may taken)))
+    (c.table_means_policy.ensures (changed old.state command) (carried (state_of before) old.state command) packet
+    (good-changed old.state command c.requires.good c.fits_types.ensures (accepted old before command taken)) (c.plan_ends.ensures.done (state_of before) old.state command (may taken)))
     (c.plan_law.ensures.segment (state_of before) old.state command packet entries (may taken) segment))
     c.answer.ensures.answer
 
