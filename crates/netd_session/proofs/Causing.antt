@@ -28,7 +28,12 @@ use Rattle.netd_session.specs.Causes.{InGrammar, HasBadLine, RefusedStart, Comes
 use Rattle.netd_session.specs.EndedView.{EndedView}
 use Rattle.netd_session.specs.Ending.{World, AtInput, AtLine, AtStart, EndsInput, EndsStart, HasBegun, HasGiven, HasReadFault, HasRun, StartFails}
 use Rattle.netd_session.specs.Talks.{EndsLine, HasWriteFault}
-use Rattle.netd_session.specs.Turns.{Standing, Goes, IsAnsweredLine, Ran, no_line, one_more}
+use Rattle.netd_session.specs.Turns.{Standing, Goes, IsAnsweredLine, IsMadeAndTraced, IsPacketLine, IsRefused, Ran, no_line, one_more}
+use Rattle.net_names.specs.declared.code.Code.TheVariants as code
+use Rattle.policy_state.specs.View.{link_named}
+use Rattle.prefixes.specs.declared.addr.Addr.{Addr}
+use Rattle.script_reader.specs.declared.line.ShowLine.{ShowLine}
+use Rattle.uid_ranges.specs.declared.range.Uid.{Uid}
 use Rattle.netd_session.specs.declared.turn.Turn.{Turn}
 use Rattle.netd_session.specs.declared.status.Status.{Status}
 use Rattle.netd_session.specs.declared.status.Status.TheVariants as status
@@ -50,12 +55,28 @@ grew_twice a b c (xs, first) (ys, second) = (
 never_falls : (before after : KernelView) → HasGrown before after → breaks_of before ≤ breaks_of after
 never_falls before after (entries, grew) = omega (arith, ap breaks_of grew ∙ breaks-grown before entries)
 
+-- a packet's line changes nothing
+packet_stays : (uid : Uid) (mark : ℕ) (dest : Addr) (link : Option (List ℕ)) (n : ℕ) (s e : Standing) (turns : List Turn) (out : List ℕ)
+    → IsPacketLine uid mark dest link n s e turns out → e ≡ s
+packet_stays uid mark dest None n s e turns out (packet, made, traced) = traced.0
+packet_stays uid mark dest (Some name) n s e turns out is = by (link_named s.controller.state name) is
+  where
+    by : (o : Option ℕ) → (elim o [ Some link ↦ IsMadeAndTraced uid mark dest (Some link) n s e turns out | None ↦ IsRefused code.NoDevice n s e turns out ]) → e ≡ s
+    by (Some link) (packet, made, traced) = traced.0
+    by None told = told.0
+
+-- a report changes nothing
+show_stays : (question : ShowLine) (n : ℕ) (s e : Standing) (turns : List Turn) (out : List ℕ) → IsAnsweredLine (line.Show question) n s e turns out → e ≡ s
+show_stays (show.Rules family) n s e turns out is = is.0
+show_stays (show.Table number) n s e turns out is = is.0
+show_stays show.Networks n s e turns out is = is.0
+
 -- what a line does to the journal
 answered_grew : (l : Line) (n : ℕ) (s e : Standing) (turns : List Turn) (out : List ℕ) → IsAnsweredLine l n s e turns out → HasGrown s.kernel e.kernel
 answered_grew line.Blank n s e turns out is = grew_by_none s.kernel e.kernel (ap (λ (x : Standing). x.kernel) is.0)
 answered_grew (line.Control command) n s e turns out is = (is.moments.entries, is.moments.grew)
-answered_grew (line.Trace (trace.Made uid mark dest)) n s e turns out (packet, made, traced) = grew_by_none s.kernel e.kernel (ap (λ (x : Standing). x.kernel) traced.0)
-answered_grew (line.Show (show.Rules family)) n s e turns out is = grew_by_none s.kernel e.kernel (ap (λ (x : Standing). x.kernel) is.0)
+answered_grew (line.Trace (trace.Made uid mark dest link)) n s e turns out is = grew_by_none s.kernel e.kernel (ap (λ (x : Standing). x.kernel) (packet_stays uid mark dest link n s e turns out is))
+answered_grew (line.Show question) n s e turns out is = grew_by_none s.kernel e.kernel (ap (λ (x : Standing). x.kernel) (show_stays question n s e turns out is))
 
 goes_grew : (text : List ℕ) (n : ℕ) (s e : Standing) (turns : List Turn) (out : List ℕ) → Goes text n s e turns out → HasGrown s.kernel e.kernel
 goes_grew text n s e turns out goes = answered_grew goes.line n s e turns out goes.answered
@@ -90,8 +111,8 @@ answered_breaks (line.Control command) n s e turns out runs is = record { none =
     broken : BrokeSome s.kernel e.kernel ⊎ IsSome s.controller.halted → BrokeSome s.kernel e.kernel
     broken (inl broke) = broke
     broken (inr halted) = is_halted s.controller.halted runs halted
-answered_breaks (line.Trace (trace.Made uid mark dest)) n s e turns out runs (packet, made, traced) = same_breaks s e runs traced.0
-answered_breaks (line.Show (show.Rules family)) n s e turns out runs is = same_breaks s e runs is.0
+answered_breaks (line.Trace (trace.Made uid mark dest link)) n s e turns out runs is = same_breaks s e runs (packet_stays uid mark dest link n s e turns out is)
+answered_breaks (line.Show question) n s e turns out runs is = same_breaks s e runs (show_stays question n s e turns out is)
 
 goes_breaks : (text : List ℕ) (n : ℕ) (s e : Standing) (turns : List Turn) (out : List ℕ) → s.controller.halted ≡ None → Goes text n s e turns out → Breaks s e
 goes_breaks text n s e turns out runs goes = answered_breaks goes.line n s e turns out runs goes.answered
@@ -268,8 +289,10 @@ answered_few : (l : Line) (n : ℕ) (s e : Standing) (turns : List Turn) (out : 
     → length s.kernel.journal ≤ journal_limit → length e.kernel.journal ≤ journal_limit
 answered_few line.Blank n s e turns out is few = omega (arith, few, ap (λ (x : Standing). length x.kernel.journal) is.0)
 answered_few (line.Control command) n s e turns out is few = is.bounded.within few
-answered_few (line.Trace (trace.Made uid mark dest)) n s e turns out (packet, made, traced) few = omega (arith, few, ap (λ (x : Standing). length x.kernel.journal) traced.0)
-answered_few (line.Show (show.Rules family)) n s e turns out is few = omega (arith, few, ap (λ (x : Standing). length x.kernel.journal) is.0)
+answered_few (line.Trace (trace.Made uid mark dest link)) n s e turns out is few =
+    omega (arith, few, ap (λ (x : Standing). length x.kernel.journal) (packet_stays uid mark dest link n s e turns out is))
+answered_few (line.Show question) n s e turns out is few =
+    omega (arith, few, ap (λ (x : Standing). length x.kernel.journal) (show_stays question n s e turns out is))
 
 ran_few : {begun : Standing} {texts : List (List ℕ)} {e : Standing} {turns : List Turn} {out : List ℕ} → Ran begun texts e turns out
     → length begun.kernel.journal ≤ journal_limit → length e.kernel.journal ≤ journal_limit

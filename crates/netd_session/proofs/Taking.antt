@@ -17,9 +17,9 @@ use Rattle.script_reader.specs.declared.line.TraceLine.TheVariants as trace
 use Rattle.uid_ranges.specs.declared.range.Uid.{Uid}
 use Rattle.netd_session.specs.Offers.{Written}
 use Rattle.netd_session.specs.Went.{went_text}
-use Rattle.netd_session.specs.declared.turn.Said.TheVariants as said
-use Rattle.netd_session.specs.Talks.{Answers, IsBad, IsTaken, IsToldBad, OffersBad, Takes}
-use Rattle.netd_session.specs.Turns.{Standing, turn_of}
+use Rattle.netd_session.specs.declared.turn.Said.{Said}
+use Rattle.netd_session.specs.Talks.{Answers, Tells, IsBad, IsTaken, IsToldBad, OffersBad, Takes}
+use Rattle.netd_session.specs.Turns.{Standing, turn_of, IsTold, IsAnsweredLine}
 use Rattle.netd_session.specs.declared.turn.Turn.{Turn}
 use Rattle.netd_session.specs.declared.status.Status.{Status}
 use Rattle.netd_session.specs.declared.status.Status.TheVariants as status
@@ -52,18 +52,16 @@ pub with_text : {result : Option Status} {text same : List ℕ} {n : ℕ} {s e :
     → text ≡ same → Takes result text n s e turns after old new → Takes result same n s e turns after old new
 with_text {result} {text} {same} {n} {s} {e} {turns} {after} {old} {new} is takes = subst (λ (t : List ℕ). Takes result t n s e turns after old new) is takes
 
--- a packet's line was answered, or memory was wanting
-pub traced : (result : Result (Unit {0}) AllocError) (uid : Uid) (mark : ℕ) (dest : Addr) (packet : Packet) (n : ℕ) (s e : Standing) (turns after : List Turn) (out : List ℕ)
-    → IsMade uid mark dest None packet → e ≡ s
-    → OnOk result (after ≡ turns ++ turn_of n (said.Went packet.mark (policy s.controller.state packet)) s ∷ [])
-    → OnOk result (out ≡ numbered n (went_text s.controller.state packet.mark (policy s.controller.state packet) (trail_of (state_of s.kernel) packet)))
-    → OnErr result (after ≡ turns) → Answers result (line.Trace (trace.Made uid mark dest)) n s e turns after out
-traced (Ok u) uid mark dest packet n s e turns after out made same grew text kept = (
-  turn_of n (said.Went packet.mark (policy s.controller.state packet)) s ∷ [],
-  grew,
-  (packet, made, (same, ap (λ (x : Standing). turn_of n (said.Went packet.mark (policy s.controller.state packet)) x ∷ []) (sym same), text)),
+-- a line that changes nothing was told, or memory was wanting
+pub answers-told : (l : Line) (result : Result (Unit {0}) AllocError) (what : Said) (text : List ℕ) (n : ℕ) (s e : Standing) (turns after : List Turn) (out : List ℕ)
+    → ((more : List Turn) → IsTold what text n s e more out → IsAnsweredLine l n s e more out)
+    → e ≡ s → Tells result what text n s turns after out → Answers result l n s e turns after out
+answers-told l (Ok u) what text n s e turns after out as_line same told = (
+  turn_of n what s ∷ [],
+  told.0,
+  as_line (turn_of n what s ∷ []) (same, ap (λ (x : Standing). turn_of n what x ∷ []) (sym same), told.1),
 )
-traced (Err f) uid mark dest packet n s e turns after out made same grew text kept = (same, kept)
+answers-told l (Err f) what text n s e turns after out as_line same told = (same, told)
 
 -- a bad line was told, or a front of what is said of it
 pub bad_line : (result : Status) (text : List ℕ) (n : ℕ) (s e : Standing) (turns after : List Turn) (column : ℕ) (old new : Written)

@@ -1,12 +1,18 @@
 -- What a session says, line by line.
-use Rattle.std.specs.Prelude.{◌≡◌, ℕ, ◌+◌, List, [], ◌∷◌, ◌++◌, length, None}
-use Rattle.kernel_model.specs.State.{rules_of}
+use Rattle.std.specs.Prelude.{◌≡◌, ℕ, ◌+◌, List, [], ◌∷◌, ◌++◌, length, Option, None, Some}
+use Rattle.kernel_model.specs.State.{rules_of, routes_of}
 use Rattle.kernel_model.specs.View.{KernelView, state_of}
 use Rattle.kernel_model.specs.Walk.{trail_of}
 use Rattle.rule_match.specs.Packet.{IsMade}
 use Rattle.rule_match.specs.declared.packet.Packet.{Packet}
+use Rattle.rule_match.specs.declared.verdict.Verdict.{Verdict}
+use Rattle.prefixes.specs.declared.addr.Addr.{Addr}
+use Rattle.uid_ranges.specs.declared.range.Uid.{Uid}
+use Rattle.net_names.specs.declared.code.Code.{Code}
+use Rattle.net_names.specs.declared.code.Code.TheVariants as code
 use Rattle.policy_meaning.specs.Policy.{policy}
 use Rattle.policy_state.specs.Step.{changed}
+use Rattle.policy_state.specs.View.{link_named}
 use Rattle.policy_state.specs.declared.command.Command.{Command}
 use Rattle.net_control.specs.Applied.{IsAnswered}
 use Rattle.net_control.specs.Bounds.{KeepsLimit}
@@ -19,10 +25,12 @@ use Rattle.script_reader.specs.declared.line.Line.{Line}
 use Rattle.script_reader.specs.declared.line.Line.TheVariants as line
 use Rattle.script_reader.specs.declared.line.TraceLine.TheVariants as trace
 use Rattle.script_reader.specs.declared.line.ShowLine.TheVariants as show
+use Rattle.report_text.specs.NetworkTexts.{networks_text}
+use Rattle.report_text.specs.RouteTexts.{routes_text}
 use Rattle.report_text.specs.RuleTexts.{rules_text}
 use Rattle.netd_session.specs.Says.{Says}
 use Rattle.netd_session.specs.Went.{went_text}
-use Rattle.turn_text.specs.Texts.{numbered, answer_text}
+use Rattle.turn_text.specs.Texts.{numbered, answer_text, refused_text}
 use Rattle.netd_session.specs.declared.turn.Said.{Said}
 use Rattle.netd_session.specs.declared.turn.Said.TheVariants as said
 use Rattle.netd_session.specs.declared.turn.Turn.{Turn}
@@ -54,22 +62,44 @@ pub record IsCommanded (command : Command) (n : ℕ) (s e : Standing) (turns : L
   pub moments : KeepsPolicy s.kernel e.kernel s.controller.state (changed s.controller.state command)
   pub locked : KeepsLockdown s.kernel e.kernel s.controller.state (changed s.controller.state command)
 
+-- a line that changes nothing, by what it says and by its text
+abbrev pub IsTold : Said → List ℕ → ℕ → (s e : Standing) → List Turn → List ℕ → Type 0
+IsTold what text n s e turns out = (e ≡ s) × (turns ≡ turn_of n what e ∷ []) × (out ≡ numbered n text)
+
+-- a question that is refused with this code
+abbrev pub IsRefused : Code → ℕ → (s e : Standing) → List Turn → List ℕ → Type 0
+IsRefused c n s e turns out = IsTold (said.Refused c) (refused_text c) n s e turns out
+
+-- a report of what there is
+abbrev pub IsShown : List ℕ → ℕ → (s e : Standing) → List Turn → List ℕ → Type 0
+IsShown text n s e turns out = IsTold said.Shown text n s e turns out
+
 -- a packet's line says where the policy sends it, and prints the rules that it meets on the way
 abbrev pub IsTraced : Packet → ℕ → (s e : Standing) → List Turn → List ℕ → Type 0
 IsTraced packet n s e turns out =
-    (e ≡ s)
-    × (turns ≡ turn_of n (said.Went packet.mark (policy s.controller.state packet)) e ∷ [])
-    × (out ≡ numbered n (went_text s.controller.state packet.mark (policy s.controller.state packet) (trail_of (state_of s.kernel) packet)))
+    let verdict : Verdict = policy s.controller.state packet in
+    IsTold (said.Went packet.mark verdict) (went_text s.controller.state packet.mark verdict (trail_of (state_of s.kernel) packet)) n s e turns out
+
+-- the packet that is made with this binding is traced
+abbrev pub IsMadeAndTraced : Uid → ℕ → Addr → Option ℕ → ℕ → (s e : Standing) → List Turn → List ℕ → Type 0
+IsMadeAndTraced uid mark dest bound n s e turns out = (packet : Packet) × IsMade uid mark dest bound packet × IsTraced packet n s e turns out
+
+-- what a packet's line says: it is bound to no link, or to the one of this name, and a name that no link has is refused
+abbrev pub IsPacketLine : Uid → ℕ → Addr → Option (List ℕ) → ℕ → (s e : Standing) → List Turn → List ℕ → Type 0
+IsPacketLine uid mark dest None n s e turns out = IsMadeAndTraced uid mark dest None n s e turns out
+IsPacketLine uid mark dest (Some name) n s e turns out = elim (link_named s.controller.state name) [
+  | Some link ↦ IsMadeAndTraced uid mark dest (Some link) n s e turns out
+  | None ↦ IsRefused code.NoDevice n s e turns out
+]
 
 -- what the line says, and what it changes
 abbrev pub IsAnsweredLine : Line → ℕ → (s e : Standing) → List Turn → List ℕ → Type 0
 IsAnsweredLine line.Blank n s e turns out = IsPassedOver s e turns out
 IsAnsweredLine (line.Control command) n s e turns out = IsCommanded command n s e turns out
-IsAnsweredLine (line.Trace (trace.Made uid mark dest)) n s e turns out =
-    (packet : Packet) × IsMade uid mark dest None packet × IsTraced packet n s e turns out
-IsAnsweredLine (line.Show (show.Rules family)) n s e turns out =
-    (e ≡ s) × (turns ≡ turn_of n said.Shown e ∷ [])
-    × (out ≡ numbered n (rules_text s.controller.state (rules_of (state_of s.kernel) family)))
+IsAnsweredLine (line.Trace (trace.Made uid mark dest link)) n s e turns out = IsPacketLine uid mark dest link n s e turns out
+IsAnsweredLine (line.Show (show.Rules family)) n s e turns out = IsShown (rules_text s.controller.state (rules_of (state_of s.kernel) family)) n s e turns out
+IsAnsweredLine (line.Show (show.Table number)) n s e turns out = IsShown (routes_text s.controller.state (routes_of number (state_of s.kernel).tables)) n s e turns out
+IsAnsweredLine (line.Show show.Networks) n s e turns out = IsShown (networks_text s.controller.state) n s e turns out
 
 -- A line of the grammar, with its number, in these turns and this text. Behind it, unless the controller has halted, the
 -- kernel stands for the state and sends every packet where the policy does.

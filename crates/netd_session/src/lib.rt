@@ -2,9 +2,11 @@
 #![tactic(auto)]
 
 mod output;
+mod question;
 mod running;
 mod status;
 mod talk;
+mod telling;
 mod turn;
 
 pub use output::offer;

@@ -1,16 +1,9 @@
-ghost use Rattle.std.specs.Prelude.{◌≡◌, ◌++◌, ◌∷◌, ◌+◌, ◌<◌, ◌≤◌, [], None, OnOk, OnErr, IfOk, IfSome, IfNone, vec_len, vec_capacity};
+ghost use Rattle.std.specs.Prelude.{◌≡◌, ◌++◌, ◌∷◌, ◌<◌, [], None, IfSome, IfNone, vec_len, vec_capacity};
 ghost use Rattle.net_io.specs.Streams.{CanCount};
-ghost use Rattle.number_text.specs.Appends.{Appends};
 ghost use Rattle.turn_text.specs.Texts.{IsCounted, numbered};
-ghost use Rattle.kernel_model.specs.State.{rules_of};
-ghost use Rattle.kernel_model.specs.View.{state_of};
-ghost use Rattle.kernel_model.specs.Walk.{trail_of};
 ghost use Rattle.net_control.specs.Moments.{SendsByPolicy};
 ghost use Rattle.net_control.specs.View.{IsKept};
-ghost use Rattle.policy_meaning.specs.Policy.{policy};
-ghost use Rattle.report_text.specs.RuleTexts.{rules_text};
 ghost use Rattle.netd_session.specs.Says.{Says};
-ghost use Rattle.netd_session.specs.Went.{went_text};
 
 use crate::output::offer;
 use crate::status::Status;
@@ -18,17 +11,10 @@ use crate::turn::{Said, Turn};
 use kernel_model::Kernel;
 use net_control::{Answer, Controller};
 use net_io::{Sink, WriteFault};
-use number_text::append_bytes;
-use packet_trace::{Trail, follow};
-use policy_meaning::table_means_policy;
-use policy_state::{Command, State};
-use prefixes::{Addr, Family};
-use report_text::{write_rules, write_trail, write_verdict};
-use rule_match::{Packet, Verdict};
-use script_reader::{Line, LineFault, ShowLine, TraceLine, read_line, write_mark};
+use policy_state::Command;
+use script_reader::{Line, LineFault, TraceLine, read_line};
 use std::alloc::{AllocError, Global};
-use turn_text::{put_answer, write_bad_line, write_number};
-use uid_ranges::Uid;
+use turn_text::{put_answer, write_bad_line};
 
 /// Room for the answer to any command.
 const ANSWER_ROOM: usize = 80;
@@ -56,78 +42,19 @@ fn put_turn(turns: &mut Vec<Turn>, turn: Turn)
     let _ = turns.push(turn);
 }
 
-// Appends the text of a packet's way.
-fn write_way(
-    state: &State,
-    mark: u32,
-    verdict: &Verdict,
-    trail: &Trail,
-    answer: &mut Vec<u8>,
-) -> Result<(), AllocError>
-    ensures { Appends answer.old answer.new result (went_text state.now mark verdict.now trail.now.steps) }
-{
-    append_bytes(b"mark ", answer)?;
-    write_mark(mark, answer)?;
-    append_bytes(b" ", answer)?;
-    write_verdict(state, verdict, answer)?;
-    append_bytes(b"\n", answer)?;
-    write_trail(trail, answer)
-}
-
-// Tells where the policy sends the packet, which is where the kernel's rules send it, and the rules that it meets.
-fn tell_packet<K: Kernel>(
-    alloc: Global,
-    number: u32,
-    packet: &Packet,
-    controller: &Controller,
-    kernel: &K,
-    answer: &mut Vec<u8>,
-) -> Result<Said, AllocError>
-    requires kept { IsKept controller.now (K.seen kernel.now) }
-    requires runs { controller.now.halted ≡ None }
-    requires empty { answer.old.items ≡ [] }
-    ensures said { IfOk result (λ said. said ≡ Said.Went packet.now.mark (policy controller.now.state packet.now)) }
-    ensures text { OnOk result (answer.new.items ≡ numbered number (went_text controller.now.state packet.now.mark (policy controller.now.state packet.now) (trail_of (state_of (K.seen kernel.now)) packet.now))) }
-{
-    table_means_policy();
-    let trail = follow(alloc, kernel, packet)?;
-    let verdict = trail.verdict();
-    let mark = packet.mark();
-    write_number(number, answer)?;
-    write_way(controller.state(), mark, &verdict, &trail, answer)?;
-    Ok(Said::Went { mark, verdict })
-}
-
-// Tells the kernel's rules of a family.
-fn tell_rules<K: Kernel>(
-    number: u32,
-    family: Family,
-    controller: &Controller,
-    kernel: &K,
-    answer: &mut Vec<u8>,
-) -> Result<(), AllocError>
-    requires empty { answer.old.items ≡ [] }
-    ensures text { OnOk result (answer.new.items ≡ numbered number (rules_text controller.now.state (rules_of (state_of (K.seen kernel.now)) family))) }
-{
-    write_number(number, answer)?;
-    write_rules(kernel, controller.state(), family, answer)
-}
-
 /// What a session keeps from line to line.
 #[derive(Drop)]
 pub struct Talk {
-    alloc: Global,
-    controller: Controller,
-    turns: Vec<Turn>,
-    answer: Vec<u8>,
+    pub(crate) alloc: Global,
+    pub(crate) controller: Controller,
+    pub(crate) turns: Vec<Turn>,
+    pub(crate) answer: Vec<u8>,
 }
 
 impl Talk {
     ghost use Rattle.script_reader.specs.declared.line.Line.TheVariants as line;
-    ghost use Rattle.script_reader.specs.declared.line.TraceLine.TheVariants as trace;
     ghost use Rattle.turn_text.specs.Texts.{bad_text};
     ghost use Rattle.netd_session.specs.Talks.{Answers, OffersAnswer, OffersBad, Takes, standing};
-    ghost use Rattle.netd_session.specs.Turns.{turn_of};
 
     /// A session that has begun.
     pub fn new(alloc: Global, controller: Controller, answer: Vec<u8>) -> Talk
@@ -180,80 +107,6 @@ impl Talk {
         Ok(())
     }
 
-    // Puts a turn behind which nothing has changed last.
-    fn note<K: Kernel>(&mut self, number: u32, said: Said, kernel: &K) -> Result<(), AllocError>
-        ensures ok { OnOk result (self.new.turns.items ≡ self.old.turns.items ++ turn_of number said (standing self.old.controller (K.seen kernel.now)) ∷ []) }
-        ensures err { OnErr result (self.new.turns.items ≡ self.old.turns.items) }
-        ensures controller { self.new.controller ≡ self.old.controller }
-        ensures answer { self.new.answer.items ≡ self.old.answer.items }
-    {
-        self.turns.push(Turn {
-            line: number,
-            said,
-            journal_end: kernel.entry_count(),
-        })?;
-        Ok(())
-    }
-
-    fn answer_packet<K: Kernel>(
-        &mut self,
-        number: u32,
-        packet: &Packet,
-        kernel: &K,
-    ) -> Result<(), AllocError>
-        requires kept { IsKept self.old.controller (K.seen kernel.now) }
-        requires runs { self.old.controller.halted ≡ None }
-        requires empty { self.old.answer.items ≡ [] }
-        ensures ok { OnOk result (self.new.turns.items ≡ self.old.turns.items ++ turn_of number (Said.Went packet.now.mark (policy self.old.controller.state packet.now)) (standing self.old.controller (K.seen kernel.now)) ∷ []) }
-        ensures text { OnOk result (self.new.answer.items ≡ numbered number (went_text self.old.controller.state packet.now.mark (policy self.old.controller.state packet.now) (trail_of (state_of (K.seen kernel.now)) packet.now))) }
-        ensures err { OnErr result (self.new.turns.items ≡ self.old.turns.items) }
-        ensures controller { self.new.controller ≡ self.old.controller }
-    {
-        let said = tell_packet(
-            self.alloc,
-            number,
-            packet,
-            &self.controller,
-            kernel,
-            &mut self.answer,
-        )?;
-        self.note(number, said, kernel)
-    }
-
-    fn answer_made<K: Kernel>(
-        &mut self,
-        number: u32,
-        uid: Uid,
-        mark: u32,
-        dest: Addr,
-        kernel: &K,
-    ) -> Result<(), AllocError>
-        requires kept { IsKept self.old.controller (K.seen kernel.now) }
-        requires runs { self.old.controller.halted ≡ None }
-        requires empty { self.old.answer.items ≡ [] }
-        ensures answers { Answers result (line.Trace (trace.Made uid mark dest)) number (standing self.old.controller (K.seen kernel.now)) (standing self.new.controller (K.seen kernel.now)) self.old.turns.items self.new.turns.items self.new.answer.items }
-        ensures controller { self.new.controller ≡ self.old.controller }
-    {
-        let packet = Packet::made(uid, mark, dest, None);
-        self.answer_packet(number, &packet, kernel)
-    }
-
-    fn show_rules<K: Kernel>(
-        &mut self,
-        number: u32,
-        family: Family,
-        kernel: &K,
-    ) -> Result<(), AllocError>
-        requires empty { self.old.answer.items ≡ [] }
-        ensures ok { OnOk result (self.new.turns.items ≡ self.old.turns.items ++ turn_of number Said.Shown (standing self.old.controller (K.seen kernel.now)) ∷ []) }
-        ensures text { OnOk result (self.new.answer.items ≡ numbered number (rules_text self.old.controller.state (rules_of (state_of (K.seen kernel.now)) family))) }
-        ensures err { OnErr result (self.new.turns.items ≡ self.old.turns.items) }
-        ensures controller { self.new.controller ≡ self.old.controller }
-    {
-        tell_rules(number, family, &self.controller, kernel, &mut self.answer)?;
-        self.note(number, Said::Shown, kernel)
-    }
-
     fn answer_line<K: Kernel>(
         &mut self,
         number: u32,
@@ -271,10 +124,13 @@ impl Talk {
         match line {
             Line::Blank => Ok(()),
             Line::Control(command) => self.answer_command(number, command, kernel),
-            Line::Trace(TraceLine::Made { uid, mark, dest }) => {
-                self.answer_made(number, *uid, *mark, *dest, kernel)
-            }
-            Line::Show(ShowLine::Rules { family }) => self.show_rules(number, *family, kernel),
+            Line::Trace(TraceLine::Made {
+                uid,
+                mark,
+                dest,
+                link,
+            }) => self.answer_made(number, *uid, *mark, *dest, link, kernel),
+            Line::Show(show) => self.answer_show(number, show, kernel),
         }
     }
 

@@ -4,5 +4,6 @@
 mod texts;
 
 pub use texts::{
-    put_answer, write_bad_line, write_number, write_start_halted, write_start_refused,
+    put_answer, write_bad_line, write_number, write_refused, write_start_halted,
+    write_start_refused,
 };

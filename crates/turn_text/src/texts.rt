@@ -16,7 +16,8 @@ fn write_number_line(words: &[u8], number: u64, out: &mut Vec<u8>) -> Result<(),
     append_bytes(b"\n", out)
 }
 
-fn write_refused(code: Code, out: &mut Vec<u8>) -> Result<(), AllocError>
+/// Appends the text of a refusal.
+pub fn write_refused(code: Code, out: &mut Vec<u8>) -> Result<(), AllocError>
     ensures { Appends out.old out.new result (refused_text code) }
 {
     append_bytes(b"refused ", out)?;

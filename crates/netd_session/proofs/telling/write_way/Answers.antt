@@ -1,6 +1,6 @@
 use Rattle.std.proofs.Common.{Ok}
 use Rattle.number_text.proofs.Appending.{both}
-use Rattle.netd_session.proofs.talk.write_way.Goals as goal
+use Rattle.netd_session.proofs.telling.write_way.Goals as goal
 
 pub returns : goal.returns
 returns c =
