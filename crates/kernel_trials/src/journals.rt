@@ -164,9 +164,13 @@ const BY_BESIDE: Verdict = Verdict::Out {
     gateway: None,
 };
 
-// In all three networks of the routes, and in the widest alone.
+// In both prefixes of the routes, and in the wider one alone.
 const NEAR: Addr = Addr::V4(0x0a01_0203);
+
 const FAR: Addr = Addr::V4(0x0a02_0202);
+
+// In none of them.
+const SIX: Addr = Addr::V6(0x20);
 
 fn add4(rule: Rule) -> Asked {
     let family = Family::V4;
@@ -201,6 +205,8 @@ fn sent(dest: Addr, bound: Option<u16>) -> Packet {
     Packet::made(Uid { number: 10050 }, 0, dest, bound)
 }
 
+// What is asked of a kernel, and what it is to be behind it.
+#[derive(Clone, Copy)]
 struct Row<'a> {
     what: &'a str,
     /// The numbers of the additions that are refused and of the deletions that break.
@@ -216,16 +222,18 @@ struct Row<'a> {
 }
 
 // A row of which nothing is asked.
-const PLAIN: Row<'static> = Row {
-    what: "",
-    refuse: &[],
-    breaks: &[],
-    asked: &[],
-    rules4: &[OWN],
-    rules6: &[OWN],
-    tables: &[],
-    walks: &[],
-};
+fn plain<'a>() -> Row<'a> {
+    Row {
+        what: "",
+        refuse: &[],
+        breaks: &[],
+        asked: &[],
+        rules4: &[],
+        rules6: &[],
+        tables: &[],
+        walks: &[],
+    }
+}
 
 fn request_of(asked: &Asked) -> Request {
     match asked {
@@ -248,23 +256,40 @@ fn asked_all(alloc: Global, row: &Row) -> Result<SimKernel, Fail> {
 }
 
 fn has_journal(rt: &impl Abort, kernel: &SimKernel, row: &Row) {
-    assert_eq!(rt; kernel.entry_count(), row.asked.len() as u64, "{}", row.what);
+    assert_eq!(rt;
+        kernel.entry_count(),
+        row.asked.len() as u64,
+        "{}",
+        row.what
+    );
     let mut place = 0;
     for (asked, kind) in row.asked {
         let entry = Entry {
             kind: *kind,
             request: request_of(asked),
         };
-        assert!(rt; kernel.entry_at(place) == Some(entry), "{}: entry {place}", row.what);
+        assert!(rt;
+            kernel.entry_at(place) == Some(entry),
+            "{}: entry {place}",
+            row.what
+        );
         place += 1;
     }
 }
 
 fn has_lists(rt: &impl Abort, alloc: Global, kernel: &SimKernel, row: &Row) -> Result<(), Fail> {
     let rules4 = rules_in(alloc, kernel, Family::V4)?;
-    assert!(rt; rules4.as_slice() == row.rules4, "{}: rules of IPv4", row.what);
+    assert!(rt;
+        rules4.as_slice() == row.rules4,
+        "{}: rules of IPv4",
+        row.what
+    );
     let rules6 = rules_in(alloc, kernel, Family::V6)?;
-    assert!(rt; rules6.as_slice() == row.rules6, "{}: rules of IPv6", row.what);
+    assert!(rt;
+        rules6.as_slice() == row.rules6,
+        "{}: rules of IPv6",
+        row.what
+    );
     for (table, routes) in row.tables {
         let there = routes_in(alloc, kernel, *table)?;
         assert!(rt; there.as_slice() == *routes, "{}: table {table}", row.what);
@@ -295,21 +320,360 @@ fn meets(rt: &impl Abort, alloc: Global, row: &Row) -> Result<(), Fail> {
     has_walks(rt, alloc, &kernel, row)
 }
 
+// Where rules stand, and which packets they decide.
 #[test]
-fn nothing_is_asked(rt: HostRuntime) -> Result<(), Fail> {
+fn places_rules(rt: HostRuntime) -> Result<(), Fail> {
     let alloc = rt.alloc();
-    meets(
-        &rt,
-        alloc,
-        &Row {
-            what: "the start",
-            tables: &[(255, &[LOOPBACK4, LOOPBACK6]), (97, &[])],
-            walks: &[
-                (sent(Addr::V4(0x7f00_0001), None), Verdict::Local, &[OWN]),
-                (sent(Addr::V6(1), None), Verdict::Local, &[OWN]),
-                (sent(NEAR, None), Verdict::Unreachable, &[OWN]),
-            ],
-            ..PLAIN
-        },
-    )
+    let row = Row {
+        what: "the start",
+        rules4: &[OWN],
+        rules6: &[OWN],
+        tables: &[(255, &[LOOPBACK4, LOOPBACK6]), (97, &[])],
+        walks: &[
+            (sent(Addr::V4(0x7f00_0001), None), Verdict::Local, &[OWN]),
+            (sent(Addr::V6(1), None), Verdict::Local, &[OWN]),
+            (sent(NEAR, None), Verdict::Unreachable, &[OWN]),
+        ],
+        ..plain()
+    };
+    meets(&rt, alloc, &row)?;
+    let row = Row {
+        what: "by priority",
+        asked: &[(add4(LAST), Added), (add4(LOCAL), Added)],
+        rules4: &[OWN, LOCAL, LAST],
+        rules6: &[OWN],
+        walks: &[
+            (sent(NEAR, None), Verdict::Prohibited, &[OWN, LOCAL, LAST]),
+            (sent(SIX, None), Verdict::Unreachable, &[OWN]),
+        ],
+        ..plain()
+    };
+    meets(&rt, alloc, &row)?;
+    let row = Row {
+        what: "behind equals",
+        asked: &[
+            (add4(LAST), Added),
+            (add4(LOCAL), Added),
+            (add4(BARRED), Added),
+        ],
+        rules4: &[OWN, LOCAL, BARRED, LAST],
+        rules6: &[OWN],
+        walks: &[(sent(NEAR, None), Verdict::Prohibited, &[OWN, LOCAL, BARRED])],
+        ..plain()
+    };
+    meets(&rt, alloc, &row)?;
+    let row = Row {
+        what: "behind equals, the other way",
+        asked: &[
+            (add4(BARRED), Added),
+            (add4(LAST), Added),
+            (add4(LOCAL), Added),
+        ],
+        rules4: &[OWN, BARRED, LOCAL, LAST],
+        rules6: &[OWN],
+        walks: &[(sent(NEAR, None), Verdict::Prohibited, &[OWN, BARRED])],
+        ..plain()
+    };
+    meets(&rt, alloc, &row)?;
+    let row = Row {
+        what: "each family by itself",
+        asked: &[(add6(BARRED), Added), (add4(LOCAL), Added)],
+        rules4: &[OWN, LOCAL],
+        rules6: &[OWN, BARRED],
+        walks: &[
+            (sent(NEAR, None), Verdict::Unreachable, &[OWN, LOCAL]),
+            (sent(SIX, None), Verdict::Prohibited, &[OWN, BARRED]),
+        ],
+        ..plain()
+    };
+    meets(&rt, alloc, &row)?;
+    let row = Row {
+        what: "deleted in one family",
+        asked: &[
+            (add4(LAST), Added),
+            (add6(LAST), Added),
+            (delete4(LAST), Deleted),
+        ],
+        rules4: &[OWN],
+        rules6: &[OWN, LAST],
+        walks: &[
+            (sent(NEAR, None), Verdict::Unreachable, &[OWN]),
+            (sent(SIX, None), Verdict::Prohibited, &[OWN, LAST]),
+        ],
+        ..plain()
+    };
+    meets(&rt, alloc, &row)?;
+    Ok(())
+}
+
+// What is refused and what breaks changes nothing; additions and deletions are counted apart, rules and routes together.
+#[test]
+fn changes_nothing_where_it_fails(rt: HostRuntime) -> Result<(), Fail> {
+    let alloc = rt.alloc();
+    let row = Row {
+        what: "the second addition is refused",
+        refuse: &[2],
+        asked: &[
+            (add4(LOCAL), Added),
+            (add4(BARRED), Refused),
+            (add4(LAST), Added),
+        ],
+        rules4: &[OWN, LOCAL, LAST],
+        rules6: &[OWN],
+        walks: &[(sent(NEAR, None), Verdict::Prohibited, &[OWN, LOCAL, LAST])],
+        ..plain()
+    };
+    meets(&rt, alloc, &row)?;
+    let row = Row {
+        what: "additions of all kinds are counted",
+        refuse: &[3],
+        asked: &[
+            (add6(LAST), Added),
+            (delete6(LAST), Deleted),
+            (put(97, WIDE), Added),
+            (add4(LOCAL), Refused),
+            (add4(LOCAL), Added),
+        ],
+        rules4: &[OWN, LOCAL],
+        rules6: &[OWN],
+        tables: &[(97, &[WIDE])],
+        walks: &[(sent(FAR, None), BY_WIDE, &[OWN, LOCAL])],
+        ..plain()
+    };
+    meets(&rt, alloc, &row)?;
+    let row = Row {
+        what: "the first and the third deletion break",
+        breaks: &[1, 3],
+        asked: &[
+            (add4(LAST), Added),
+            (delete4(LAST), Broken),
+            (delete4(LAST), Deleted),
+            (add4(LAST), Added),
+            (delete4(LAST), Broken),
+        ],
+        rules4: &[OWN, LAST],
+        rules6: &[OWN],
+        walks: &[(sent(NEAR, None), Verdict::Prohibited, &[OWN, LAST])],
+        ..plain()
+    };
+    meets(&rt, alloc, &row)?;
+    let row = Row {
+        what: "a route is refused, and its deletion breaks",
+        refuse: &[1],
+        breaks: &[1],
+        asked: &[
+            (put(97, WIDE), Refused),
+            (put(97, WIDE), Added),
+            (cut(97, WIDE), Broken),
+        ],
+        rules4: &[OWN],
+        rules6: &[OWN],
+        tables: &[(97, &[WIDE])],
+        ..plain()
+    };
+    meets(&rt, alloc, &row)?;
+    Ok(())
+}
+
+// Which route of a table a packet takes.
+#[test]
+fn takes_the_best_route(rt: HostRuntime) -> Result<(), Fail> {
+    let alloc = rt.alloc();
+    let row = Row {
+        what: "a longer prefix",
+        asked: &[
+            (add4(LOCAL), Added),
+            (put(97, WIDE), Added),
+            (put(97, NARROW), Added),
+        ],
+        rules4: &[OWN, LOCAL],
+        rules6: &[OWN],
+        tables: &[(97, &[WIDE, NARROW])],
+        walks: &[
+            (sent(NEAR, None), BY_NARROW, &[OWN, LOCAL]),
+            (sent(FAR, None), BY_WIDE, &[OWN, LOCAL]),
+        ],
+        ..plain()
+    };
+    meets(&rt, alloc, &row)?;
+    let row = Row {
+        what: "a longer prefix, added first",
+        asked: &[
+            (add4(LOCAL), Added),
+            (put(97, NARROW), Added),
+            (put(97, WIDE), Added),
+        ],
+        rules4: &[OWN, LOCAL],
+        rules6: &[OWN],
+        tables: &[(97, &[NARROW, WIDE])],
+        walks: &[
+            (sent(NEAR, None), BY_NARROW, &[OWN, LOCAL]),
+            (sent(FAR, None), BY_WIDE, &[OWN, LOCAL]),
+        ],
+        ..plain()
+    };
+    meets(&rt, alloc, &row)?;
+    let row = Row {
+        what: "the first of equal length",
+        asked: &[
+            (add4(LOCAL), Added),
+            (put(97, BESIDE), Added),
+            (put(97, NARROW), Added),
+        ],
+        rules4: &[OWN, LOCAL],
+        rules6: &[OWN],
+        tables: &[(97, &[BESIDE, NARROW])],
+        walks: &[(sent(NEAR, None), BY_BESIDE, &[OWN, LOCAL])],
+        ..plain()
+    };
+    meets(&rt, alloc, &row)?;
+    let row = Row {
+        what: "a bound packet takes its link's",
+        asked: &[
+            (add4(LOCAL), Added),
+            (put(97, WIDE), Added),
+            (put(97, NARROW), Added),
+            (put(97, BESIDE), Added),
+        ],
+        rules4: &[OWN, LOCAL],
+        rules6: &[OWN],
+        walks: &[
+            (sent(NEAR, None), BY_NARROW, &[OWN, LOCAL]),
+            (sent(NEAR, Some(7)), BY_BESIDE, &[OWN, LOCAL]),
+            (sent(NEAR, Some(5)), BY_WIDE, &[OWN, LOCAL]),
+            (sent(NEAR, Some(9)), Verdict::Unreachable, &[OWN, LOCAL]),
+        ],
+        ..plain()
+    };
+    meets(&rt, alloc, &row)?;
+    Ok(())
+}
+
+// A throw lets the walk go on, and an unreachable route ends it; a binding leaves both in place.
+#[test]
+fn takes_special_routes(rt: HostRuntime) -> Result<(), Fail> {
+    let alloc = rt.alloc();
+    let row = Row {
+        what: "throw",
+        asked: &[
+            (add4(LOCAL), Added),
+            (add4(LAST), Added),
+            (put(97, WIDE), Added),
+            (put(97, THROWN), Added),
+        ],
+        rules4: &[OWN, LOCAL, LAST],
+        rules6: &[OWN],
+        tables: &[(97, &[WIDE, THROWN])],
+        walks: &[
+            (sent(NEAR, None), Verdict::Prohibited, &[OWN, LOCAL, LAST]),
+            (
+                sent(NEAR, Some(5)),
+                Verdict::Prohibited,
+                &[OWN, LOCAL, LAST],
+            ),
+            (sent(FAR, None), BY_WIDE, &[OWN, LOCAL]),
+        ],
+        ..plain()
+    };
+    meets(&rt, alloc, &row)?;
+    let row = Row {
+        what: "unreachable",
+        asked: &[
+            (add4(LOCAL), Added),
+            (add4(LAST), Added),
+            (put(97, NARROW), Added),
+            (put(97, CLOSED), Added),
+        ],
+        rules4: &[OWN, LOCAL, LAST],
+        rules6: &[OWN],
+        tables: &[(97, &[NARROW, CLOSED])],
+        walks: &[
+            (sent(NEAR, None), BY_NARROW, &[OWN, LOCAL]),
+            (sent(NEAR, Some(7)), Verdict::Unreachable, &[OWN, LOCAL]),
+        ],
+        ..plain()
+    };
+    meets(&rt, alloc, &row)?;
+    let row = Row {
+        what: "table 255 leads to the device",
+        asked: &[(put(255, WIDE), Added)],
+        rules4: &[OWN],
+        rules6: &[OWN],
+        tables: &[(255, &[LOOPBACK4, LOOPBACK6, WIDE])],
+        walks: &[(sent(NEAR, None), Verdict::Local, &[OWN])],
+        ..plain()
+    };
+    meets(&rt, alloc, &row)?;
+    Ok(())
+}
+
+// What deleting a route leaves in its table and in others.
+#[test]
+fn keeps_emptied_tables(rt: HostRuntime) -> Result<(), Fail> {
+    let alloc = rt.alloc();
+    let row = Row {
+        what: "one of two",
+        asked: &[
+            (add4(LOCAL), Added),
+            (put(97, WIDE), Added),
+            (put(97, NARROW), Added),
+            (put(1005, BESIDE), Added),
+            (cut(97, WIDE), Deleted),
+        ],
+        rules4: &[OWN, LOCAL],
+        rules6: &[OWN],
+        tables: &[(97, &[NARROW]), (1005, &[BESIDE])],
+        walks: &[
+            (sent(NEAR, None), BY_NARROW, &[OWN, LOCAL]),
+            (sent(FAR, None), Verdict::Unreachable, &[OWN, LOCAL]),
+        ],
+        ..plain()
+    };
+    meets(&rt, alloc, &row)?;
+    let row = Row {
+        what: "emptied and filled again",
+        asked: &[
+            (put(97, WIDE), Added),
+            (add4(LOCAL), Added),
+            (put(1005, NARROW), Added),
+            (cut(97, WIDE), Deleted),
+            (put(97, BESIDE), Added),
+        ],
+        rules4: &[OWN, LOCAL],
+        rules6: &[OWN],
+        tables: &[(97, &[BESIDE]), (1005, &[NARROW])],
+        walks: &[(sent(NEAR, None), BY_BESIDE, &[OWN, LOCAL])],
+        ..plain()
+    };
+    meets(&rt, alloc, &row)?;
+    Ok(())
+}
+
+// Which rules ask for a mark, a link or a UID that the packet has.
+#[test]
+fn asks_for_selectors(rt: HostRuntime) -> Result<(), Fail> {
+    let alloc = rt.alloc();
+    let protected = Packet::made(Uid { number: 10050 }, 0x30064, FAR, None);
+    let root = Packet::made(Uid { number: 0 }, 0, FAR, Some(5));
+    let passed = Packet::passed(5, FAR).ok_or("a link other than lo")?;
+    let row = Row {
+        what: "selectors",
+        asked: &[
+            (add4(BOUND), Added),
+            (add4(CHOSEN), Added),
+            (add4(locked()), Added),
+            (put(1005, WIDE), Added),
+        ],
+        rules4: &[OWN, locked(), CHOSEN, BOUND],
+        rules6: &[OWN],
+        walks: &[
+            (sent(FAR, None), Verdict::Prohibited, &[OWN, locked()]),
+            (protected, BY_WIDE, &[OWN, CHOSEN]),
+            (root, BY_WIDE, &[OWN, BOUND]),
+            (passed, Verdict::Unreachable, &[OWN]),
+        ],
+        ..plain()
+    };
+    meets(&rt, alloc, &row)?;
+    Ok(())
 }
