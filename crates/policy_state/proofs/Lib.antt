@@ -6,3 +6,4 @@ pub mod LinkLists
 pub mod Goodness
 pub mod PhysicalLinks
 pub mod Levels
+pub mod Puts

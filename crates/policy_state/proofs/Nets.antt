@@ -29,7 +29,7 @@ pub record Standing (net : ℕ) (ns : List Network) (n : Network) : Type 0 where
   pub id_is : n.id ≡ net
   pub changes : (change : Network → Network) → with_change net change ns ≡ before ++ change n ∷ behind
 
-untouched : (net : ℕ) (change : Network → Network) (ns : List Network) → list_any (λ i. i == net) (map (λ n. n.id) ns) ≡ false → with_change net change ns ≡ ns
+pub untouched : (net : ℕ) (change : Network → Network) (ns : List Network) → list_any (λ i. i == net) (map (λ n. n.id) ns) ≡ false → with_change net change ns ≡ ns
 untouched net change [] absent = refl
 untouched net change (n ∷ ns) absent =
     let parts = or_parts (n.id == net) (list_any (λ i. i == net) (map (λ m. m.id) ns)) absent in

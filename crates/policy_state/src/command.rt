@@ -1,3 +1,6 @@
+ghost use Rattle.std.specs.Prelude.{◌<◌};
+ghost use Rattle.policy_state.specs.Step.{FitsTypes};
+
 use fwmark::Permission;
 use net_names::Name;
 use prefixes::{Addr, Prefix};
@@ -58,4 +61,29 @@ pub enum Command {
     LockdownRemove {
         range: UidRange,
     },
+}
+
+fn is_below_65536(number: u16)
+    ensures { number < 65536 }
+{
+    let _ = number;
+}
+
+impl Command {
+    /// Every command's numbers lie within their types. A law over all views of commands can't know it, so callers get it here.
+    pub fn fits_types(&self)
+        ensures { FitsTypes self.now }
+    {
+        match *self {
+            Command::LinkAdd { index, .. } => is_below_65536(index),
+            Command::CreatePhysical { net, .. } => is_below_65536(net),
+            Command::LinkRemove { .. }
+            | Command::InterfaceAdd { .. }
+            | Command::RouteAdd { .. }
+            | Command::RouteRemove { .. }
+            | Command::PermissionNetwork { .. }
+            | Command::LockdownAdd { .. }
+            | Command::LockdownRemove { .. } => {}
+        }
+    }
 }

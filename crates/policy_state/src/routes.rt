@@ -7,7 +7,7 @@ ghost use Rattle.policy_state.specs.Step as step;
 
 use crate::command::Way;
 use networks::{LinkRoute, Network};
-use prefixes::{same_family, same_key, Out, Prefix, Route};
+use prefixes::{Out, Prefix, Route, same_family};
 
 // Where a route by this link goes.
 fn out_of(link: u16, way: Way) -> Out
@@ -59,16 +59,10 @@ pub(crate) fn is_way_of_other_family(prefix: Prefix, way: Way) -> bool
     }
 }
 
-fn is_keyed_by(route: &LinkRoute, link: u16, key: &Route) -> bool
-    ensures { result ≡ step.is_keyed_by link key.now route.now }
-{
-    route.link == link && same_key(&route.route, key)
-}
-
 fn any_keyed_by(routes: &[LinkRoute], link: u16, key: &Route) -> bool
     ensures { result ≡ list_any (step.is_keyed_by link key.now) routes.now }
 {
-    routes.iter().any(|route| is_keyed_by(route, link, key))
+    routes.iter().any(|route| route.is_keyed_by(link, key))
 }
 
 // Whether a route of the interface has this key.

@@ -1,4 +1,4 @@
-use Rattle.std.proofs.Common.{◌≡◌, ◌==◌, ◌∙◌, sym, ap, length, filter}
+use Rattle.std.proofs.Common.{◌==◌, ◌∙◌, sym, ap, length, filter}
 use Rattle.policy_state.proofs.RouteLists.{length-routes_by-filter}
 use Rattle.policy_state.proofs.routes.count_of.Goals as goal
 
