@@ -49,6 +49,7 @@ module _ (start : List ℕ) (count : ℕ) (mid new : Input) (b m a : Outside) (l
     counted = both_counted (Err Read) t;
     one_line = line_same (Err Read) t;
     finished = t.finished;
+    none_left = t.none_left;
     found = (
       bytes_so_far (Err Read) t ∙ (ap (λ (xs : List ℕ). line_of mid ++ xs) t.byte.0 ∙ (append-nil (line_of mid) ∙ sym t.line_kept)),
       omega (arith, ap length t.line_kept, l.length_is),
@@ -66,6 +67,7 @@ module _ (start : List ℕ) (count : ℕ) (mid new : Input) (b m a : Outside) (l
     counted = both_counted (Err TooLong) t;
     one_line = line_same (Err TooLong) t;
     finished = t.finished;
+    none_left = t.none_left;
     found = (
       bytes_so_far (Err TooLong) t ∙ (ap (λ (xs : List ℕ). line_of mid ++ xs) t.byte.0 ∙ ap (λ (xs : List ℕ). xs ++ held new) (sym t.line_kept)),
       omega (arith, ap length t.line_kept, l.length_is),
@@ -83,6 +85,7 @@ module _ (start : List ℕ) (count : ℕ) (mid new : Input) (b m a : Outside) (l
     counted = both_counted (Ok None) t;
     one_line = line_same (Ok None) t;
     finished = t.finished;
+    none_left = t.none_left;
     found =
         let empty : line_of mid ≡ [] = no_length (line_of mid) (l.length_is ∙ none) in (
           bytes_so_far (Ok None) t ∙ (ap (λ (xs : List ℕ). line_of mid ++ xs) t.byte.0 ∙ (append-nil (line_of mid) ∙ empty)),
@@ -105,6 +108,7 @@ module _ (start : List ℕ) (count : ℕ) (mid new : Input) (b m a : Outside) (l
     counted = both_counted (Ok None) t;
     one_line = line_same (Ok None) t;
     finished = t.finished;
+    none_left = t.none_left;
     found = (
       (
         line_of new,
@@ -123,6 +127,7 @@ module _ (start : List ℕ) (count : ℕ) (mid new : Input) (b m a : Outside) (l
     counted = both_counted (Ok (Some line_feed)) t;
     one_line = line_same (Ok (Some line_feed)) t;
     finished = t.finished;
+    none_left = t.none_left;
     found = (
       (
         line_of new ++ line_feed ∷ [],
@@ -153,6 +158,7 @@ module _ (start : List ℕ) (count : ℕ) (mid new : Input) (b m a : Outside) (l
     within = omega (arith, same_given, t.byte.1);
     no_fault = t.byte.2 ∙ l.no_fault;
     finished = ends ∙ t.finished;
+    none_left = t.none_left;
   }
 
 pub looks_long_line : (start : List ℕ) (count : ℕ) (mid : Input) (b m : Outside) → Looking start count mid b m → line_limit < mid.length → Looks start count mid b m (Ok Line)
@@ -162,6 +168,7 @@ looks_long_line start count mid b m l long = record {
   counted = l.counted;
   one_line = l.one_line;
   finished = l.finished;
+  none_left = l.none_left;
   found = ((line_of mid, l.bytes, inr (inl (refl, omega (arith, l.length_is)))), l.within, l.no_fault);
 }
 

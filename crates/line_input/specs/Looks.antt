@@ -1,6 +1,6 @@
 -- What looking for the next line does.
 use Rattle.std.specs.Prelude.{◌≡◌, ◌⊎◌, ℕ, ◌+◌, ◌<◌, ◌≤◌, Bool, true, false, List, [], ◌++◌, take, drop, length, Option, Result, Ok, Err}
-use Rattle.std.specs.Io.KnownBytes.{Consumes}
+use Rattle.std.specs.Io.KnownBytes.{Consumes, IsAtEnd}
 use Rattle.line_input.specs.Lines.{IsOneLine, fed, line_limit, input_limit}
 use Rattle.line_input.specs.declared.input.Input.{Input}
 use Rattle.line_input.specs.declared.input.Met.{Met}
@@ -21,6 +21,10 @@ pub record Outside : Type 0 where
   pub left : Option (List ℕ)
   pub faults : ℕ
   pub ended : Bool
+
+-- where the source has ended, it has no byte left
+abbrev pub NoneLeft : Outside → Type 0
+NoneLeft outside = outside.ended ≡ true → IsAtEnd outside.left
 
 -- the bytes by which a line was met: it with its line feed, one byte more than a line may have, or the last bytes of the input
 abbrev pub IsMetBy : Bool → List ℕ → List ℕ → List ℕ → Type 0
@@ -48,4 +52,5 @@ pub record Looks (bytes : List ℕ) (count : ℕ) (new : Input) (before after : 
   pub counted : new.given ≡ count + length more
   pub one_line : IsOneLine (line_of new)
   pub finished : new.finished ≡ after.ended
+  pub none_left : NoneLeft after
   pub found : Found result (line_of new) (bytes ++ more) (held new) new.given before after

@@ -2,7 +2,7 @@
 use Rattle.std.specs.Prelude.{false, ◌≡◌, ℕ, ◌+◌, ◌<◌, ◌≤◌, ◌==◌, true, List, [], ◌∷◌, ◌++◌, length, Option, Some, None, Result, Ok, Err}
 use Rattle.std.specs.Io.KnownBytes.{Consumes}
 use Rattle.line_input.specs.Lines.{IsOneLine, input_limit}
-use Rattle.line_input.specs.Looks.{Outside, held, line_of}
+use Rattle.line_input.specs.Looks.{NoneLeft, Outside, held, line_of}
 use Rattle.line_input.specs.declared.input.Input.{Input}
 use Rattle.line_input.specs.declared.input.InputFault.{InputFault}
 use Rattle.line_input.specs.declared.input.InputFault.TheVariants.{Read, TooLong}
@@ -23,6 +23,7 @@ pub record Fills (old new : Input) (before after : Outside) (result : Result ℕ
   pub line_kept : line_of new ≡ line_of old
   pub length_kept : new.length ≡ old.length
   pub finished : new.finished ≡ after.ended
+  pub none_left : NoneLeft after
   pub filled : Filled result more (held new) new.given before after
 
 -- what became of the bytes when one was asked for, by the answer
@@ -42,6 +43,7 @@ pub record Takes (old new : Input) (before after : Outside) (result : Result (Op
   pub line_kept : line_of new ≡ line_of old
   pub length_kept : new.length ≡ old.length
   pub finished : new.finished ≡ after.ended
+  pub none_left : NoneLeft after
   pub byte : Taken result (held old ++ more) (held new) new.given before after
 
 -- how far looking for a line has come, from the bytes that were held at its start
@@ -55,3 +57,4 @@ pub record Looking (start : List ℕ) (count : ℕ) (new : Input) (before after 
   pub within : new.given ≤ input_limit
   pub no_fault : after.faults ≡ before.faults
   pub finished : new.finished ≡ after.ended
+  pub none_left : NoneLeft after

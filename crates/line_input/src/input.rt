@@ -1,6 +1,6 @@
 ghost use Rattle.std.specs.Prelude.{◌≡◌, ◌≢◌, true, false, ◌==◌, ◌<◌, ◌≤◌, ◌+◌, [], ◌∷◌, ◌++◌, length, take, IfOk, OnOk, OnErr};
 ghost use Rattle.std.specs.Bool.{OnTrue, OnFalse};
-ghost use Rattle.std.specs.Io.KnownBytes.{Consumes, Keeps};
+ghost use Rattle.std.specs.Io.KnownBytes.{Consumes, IsAtEnd, Keeps};
 ghost use Rattle.net_io.specs.Streams.{CanCount};
 
 use net_io::{Failed, Source};
@@ -42,6 +42,7 @@ fn read_front<S: Source>(source: &mut S, piece: &mut [u8], most: usize) -> Resul
     ensures bound { IfOk result (λ n. n ≤ most) }
     ensures bytes { IfOk result (λ n. Consumes (S.left source.old) (S.left source.new) (take n piece.new)) }
     ensures end { IfOk result (λ n. S.ended source.new ≡ (n == 0)) }
+    ensures none_left { IfOk result (λ n. n ≡ 0 → IsAtEnd (S.left source.new)) }
     ensures kept { OnOk result (S.faults source.new ≡ S.faults source.old) }
     ensures failed { OnErr result (S.faults source.old < S.faults source.new) }
     ensures left { OnErr result (Keeps (S.left source.old) (S.left source.new)) }
@@ -158,6 +159,7 @@ impl Input {
         requires count { CanCount (S.faults source.old) }
         requires within { self.old.given ≤ input_limit }
         requires end { self.old.finished ≡ S.ended source.old }
+        requires none_left { S.ended source.old ≡ true → IsAtEnd (S.left source.old) }
         ensures { Takes self.old self.new
             (record { left = S.left source.old; faults = S.faults source.old; ended = S.ended source.old })
             (record { left = S.left source.new; faults = S.faults source.new; ended = S.ended source.new }) result }
@@ -191,6 +193,7 @@ impl Input {
         requires count { CanCount (S.faults source.old) }
         requires within { self.old.given ≤ input_limit }
         requires end { self.old.finished ≡ S.ended source.old }
+        requires none_left { S.ended source.old ≡ true → IsAtEnd (S.left source.old) }
         ensures { Looks (held self.old) self.old.given self.new
             (record { left = S.left source.old; faults = S.faults source.old; ended = S.ended source.old })
             (record { left = S.left source.new; faults = S.faults source.new; ended = S.ended source.new }) result }

@@ -8,24 +8,31 @@ use Rattle.kernel_model.specs.Segment.{done}
 use Rattle.kernel_model.proofs.Replays.{replay-append}
 use Rattle.kernel_model.specs.PlanView.{PlanView}
 use Rattle.kernel_model.specs.Stands.{Stands}
-use Rattle.kernel_model.specs.View.{KernelView, state_of, grown}
+use Rattle.kernel_model.specs.View.{KernelView, Room, state_of, grown}
+use Rattle.kernel_model.specs.Same.{Distinct}
+use Rattle.kernel_model.specs.declared.request.Request.{Request}
+use Rattle.kernel_model.specs.declared.request.Request.TheVariants as req
+use Rattle.prefixes.specs.declared.route.Route.{Route}
+use Rattle.plan_exec.specs.MayCarry.{MayCarry, ReadyFor}
+use Rattle.std.specs.List.{AllByRecursion}
 use Rattle.kernel_model.specs.declared.request.Entry.{Entry}
-use Rattle.policy_state.specs.Step.{refusal, changed}
+use Rattle.policy_state.specs.Step.{FitsTypes, refusal, changed}
 use Rattle.policy_state.specs.Table.{rule_table, route_list}
 use Rattle.policy_state.specs.View.{StateView}
 use Rattle.policy_state.specs.declared.command.Command.{Command}
 use Rattle.rule_compile.specs.Asked.{asked, carried, MayStep}
 use Rattle.plan_exec.specs.Carries.{Carries}
 use Rattle.plan_exec.specs.declared.Carried.TheVariants.{Done, Halted}
-use Rattle.std.specs.Prelude.{Err, [], ◌∷◌, ◌≢◌}
+use Rattle.std.specs.Prelude.{◌⊎◌, ◌*◌, true, false, slice_get, Err, [], ◌∷◌, ◌≢◌}
 use Rattle.std.proofs.lemmas.Bool.Decides.{eqb_tells}
 use Rattle.prefixes.specs.declared.addr.Family.{Family}
 use Rattle.prefixes.specs.declared.addr.Family.TheVariants as family
 use Rattle.rule_law.specs.Rules as law
 use Rattle.rule_match.specs.declared.rule.Rule.{Rule}
 use Rattle.kernel_model.specs.Kind.{rule_kind}
-use Rattle.kernel_model.specs.State.{rules_of, routes_of, own_rule, loopback, start as start_state}
+use Rattle.kernel_model.specs.State.{is_absent, is_present, is_route, rules_of, routes_of, own_rule, loopback, start as start_state}
 use Rattle.policy_state.specs.View.{start}
+use Rattle.policy_state.proofs.Goodness.{good-start}
 use Rattle.net_control.specs.Started.{start_adds, IsStarted}
 use Rattle.net_control.specs.declared.controller.StartFault.TheVariants as fault
 use Rattle.kernel_model.specs.Journal.{replay, replay_from}
@@ -53,13 +60,38 @@ refused_with s journal command c is =
     ap (λ (d : Option Code). or_else d (if nat_lt journal_limit (length journal + most_requests s command) then Some code.NoSpace else None)) is
 
 -- what a command is taken on
-pub may_step : (old : ControllerView) (kernel : KernelView) (command : Command) → IsKept old kernel → old.halted ≡ None → refusal old.state command ≡ None
+pub may_step : (old : ControllerView) (kernel : KernelView) (command : Command) → IsKept old kernel → old.halted ≡ None → FitsTypes command → refusal old.state command ≡ None
     → MayStep (state_of kernel) old.state command
-may_step old kernel command kept runs accepted = record { good = kept.good; accepted = accepted; stands = kept.stands runs }
+may_step old kernel command kept runs fits accepted = record { good = kept.good; fits = fits; accepted = accepted; stands = kept.stands runs }
+
+-- rules alone, or one route alone
+abbrev pub AreOfOneKind : List Request → Type 0
+AreOfOneKind adds = AllByRecursion (λ q. is_route q ≡ false) adds ⊎ ((n : ℕ) × (route : Route) × (adds ≡ req.Route n route ∷ []))
+
+-- the kernel is ready for the table of the route that comes first
+abbrev pub IsReadyForFirst : List Request → Option ℕ → Type 0
+IsReadyForFirst adds ready = (n : ℕ) (route : Route) → slice_get adds 0 ≡ Some (req.Route n route) → ready ≡ Some n
+
+ready_for : (adds : List Request) (ready : Option ℕ) → AreOfOneKind adds → IsReadyForFirst adds ready → ReadyFor adds ready
+ready_for adds ready (inl rules) made = inl rules
+ready_for adds ready (inr (n, route, is)) made = inr (n, route, is, made n route (ap (λ qs. slice_get qs 0) is))
+
+-- a plan that can be asked may be carried out where room was made for it
+pub may_carry : (plan asked : PlanView) (before mid : KernelView) (room : Room) → plan ≡ asked → mid ≡ before
+    → Distinct (asked.adds ++ asked.deletes)
+    → AllByRecursion (λ q. is_absent (state_of before) q ≡ true) asked.adds
+    → AllByRecursion (λ q. is_present (state_of before) q ≡ true) asked.deletes
+    → AreOfOneKind asked.adds → 2 * length plan.adds + length plan.deletes ≤ room.spare → IsReadyForFirst plan.adds room.ready
+    → MayCarry plan mid room
+may_carry plan asked before mid room is same distinct absent present kind spare ready =
+    subst (λ (k : KernelView). MayCarry plan k room) (sym same)
+    (subst (λ (p : PlanView). 2 * length p.adds + length p.deletes ≤ room.spare → IsReadyForFirst p.adds room.ready → MayCarry p before room) (sym is)
+    (λ enough made. record { distinct = distinct; absent = absent; present = present; spare = enough; ready = ready_for asked.adds room.ready kind made })
+    spare ready)
 
 -- a kernel that was asked all of a plan stands for the new state
 pub stands_for_new : (before after : KernelView) (s : StateView) (command : Command)
-    → Stands (carried (state_of before) s (changed s command)) (rule_table (changed s command)) (route_list (changed s command))
+    → Stands (carried (state_of before) s command) (rule_table (changed s command)) (route_list (changed s command))
     → after ≡ grown before (done (adds_of s command) (deletes_of s command)) → StandsFor after (changed s command)
 stands_for_new before after s command stands grew =
     subst (λ k. StandsFor k (changed s command)) (sym grew)
@@ -71,11 +103,11 @@ pub stands_as_before : (before after : KernelView) (s : StateView) → state_of 
 stands_as_before before after s same stands = subst (λ k. Stands k (rule_table s) (route_list s)) (sym same) stands
 
 -- a plan that was carried out
-pub done_grew : (plan : PlanView) (old mid new : KernelView) (s : StateView) (command : Command) → plan ≡ asked s (changed s command) → mid ≡ old
+pub done_grew : (plan : PlanView) (old mid new : KernelView) (s : StateView) (command : Command) → plan ≡ asked s command → mid ≡ old
     → Carries plan mid new Done → new ≡ grown old (done (adds_of s command) (deletes_of s command))
 done_grew plan old mid new s command plan_is same carries =
-    let here : Carries (asked s (changed s command)) old new Done =
-    subst (λ (k : KernelView). Carries (asked s (changed s command)) k new Done) same
+    let here : Carries (asked s command) old new Done =
+    subst (λ (k : KernelView). Carries (asked s command) k new Done) same
     (subst (λ (p : PlanView). Carries p mid new Done) plan_is carries) in
     here.grew ∙ ap (grown old) here.form
 
@@ -120,7 +152,7 @@ start_kept plan old mid new empty plan_is same carries =
     subst (λ (k : KernelView). Carries (record { adds = start_adds; deletes = [] }) k new Done) same
     (subst (λ (p : PlanView). Carries p mid new Done) plan_is carries) in
     record {
-      good = record { lockdown_disjoint = refl; lockdown_few = omega arith };
+      good = good-start;
       stands = λ _. subst (λ k. StandsFor k start) (sym here.grew)
           (subst (λ es. Stands (replay es) (rule_table start) (route_list start)) (sym (ap (λ es. es ++ here.entries) empty ∙ here.form)) start_stands);
     }

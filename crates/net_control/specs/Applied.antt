@@ -16,10 +16,10 @@ use Rattle.net_control.specs.declared.controller.Answer.{Answer}
 use Rattle.net_control.specs.declared.controller.Answer.TheVariants as answer
 
 abbrev pub adds_of : StateView → Command → List Request
-adds_of state command = asked_adds state (changed state command)
+adds_of state command = asked_adds state command
 
 abbrev pub deletes_of : StateView → Command → List Request
-deletes_of state command = asked_deletes state (changed state command)
+deletes_of state command = asked_deletes state command
 
 -- how many requests a command may take: each addition may have to be undone
 abbrev pub most_requests : StateView → Command → ℕ

@@ -2,3 +2,5 @@ pub mod Limit
 pub mod View
 pub mod Applied
 pub mod Started
+pub mod Causes
+pub mod Moments

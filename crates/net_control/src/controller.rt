@@ -1,13 +1,16 @@
-ghost use Rattle.std.specs.Prelude.{◌≡◌, ◌≤◌, ◌<◌, ◌+◌, ◌*◌, [], OnOk, IfOk, MatchOption, length};
+ghost use Rattle.std.specs.Prelude.{◌≡◌, ◌≤◌, ◌<◌, ◌+◌, ◌*◌, ℕ, [], None, Some, OnOk, IfOk, MatchOption, length, slice_get};
 ghost use Rattle.net_control.specs.Limit.{journal_limit};
 ghost use Rattle.kernel_model.specs.View.{grown};
+ghost use Rattle.kernel_model.specs.declared.request.Request.TheVariants as req;
+ghost use Rattle.prefixes.specs.declared.route.Route.{Route};
 ghost use Rattle.policy_state.specs.View.{start};
 
-use kernel_model::{Kernel, Plan};
+use kernel_model::{Kernel, Plan, Request};
 use net_names::Code;
-use plan_exec::{Carried, carry, switch_may_be_carried};
+use plan_exec::{Carried, carry};
+use policy_meaning::{barred_stays_in, own_rule_means_start, table_means_policy};
 use policy_state::{Command, State, StepFault};
-use rule_compile::{plan, plan_ends, start_plan};
+use rule_compile::{plan, plan_ends, plan_law, requests_can_be_asked, start_law, start_plan};
 use std::alloc::{AllocError, Global};
 use std::marker::Model;
 use thiserror::Error;
@@ -76,13 +79,30 @@ fn room_for<K: Kernel>(kernel: &K, plan: &Plan) -> Option<u64>
     Some(most)
 }
 
+// Makes room for this many requests, and where the plan adds a route, which is then all that it adds, for that one in its
+// table.
+fn make_room<K: Kernel>(kernel: &mut K, plan: &Plan, most: u64) -> Result<(), AllocError>
+    ensures seen { K.seen kernel.new ≡ K.seen kernel.old }
+    ensures spare { OnOk result (most ≤ (K.room kernel.new).spare) }
+    ensures ready { OnOk result ((n : ℕ) (route : Route) → slice_get plan.now.adds 0 ≡ Some (req.Route n route) → (K.room kernel.new).ready ≡ Some n) }
+{
+    kernel.reserve(most)?;
+    match plan.add_at(0) {
+        Some(Request::Route { table, .. }) => kernel.prepare(table),
+        Some(Request::Rule { .. }) | None => Ok(()),
+    }
+}
+
 impl Controller {
     ghost use Rattle.net_control.specs.Started.{IsStarted};
     ghost use Rattle.net_control.specs.Applied.{IsAnswered};
     ghost use Rattle.net_control.specs.View.{IsKept};
+    ghost use Rattle.net_control.specs.Causes.{HasCause, HasStartCause};
+    ghost use Rattle.net_control.specs.Moments.{KeepsLockdown, KeepsPolicy, SendsByPolicy};
+    ghost use Rattle.policy_state.specs.Step.{changed};
 
-    /// Asks a starting kernel for the rules of the first state.
-    pub fn start<K: Kernel>(alloc: Global, kernel: &mut K) -> Result<Controller, StartFault>
+    // Asks for the rules of the first state.
+    fn ask_start<K: Kernel>(alloc: Global, kernel: &mut K) -> Result<Controller, StartFault>
         requires { (K.seen kernel.old).journal ≡ [] }
         ensures answer { IsStarted result (K.seen kernel.old) (K.seen kernel.new) }
         ensures kept { IfOk result (λ controller. IsKept controller (K.seen kernel.new)) }
@@ -107,6 +127,28 @@ impl Controller {
             Carried::Undone { request } => Err(StartFault::Refused { request }),
             Carried::Halted { request } => Err(StartFault::Halted { request }),
         }
+    }
+
+    /// Asks a starting kernel for the rules of the first state, and takes those back that it took where it refuses one.
+    /// All the while packets go where that state's policy says.
+    pub fn start<K: Kernel>(alloc: Global, kernel: &mut K) -> Result<Controller, StartFault>
+        requires { (K.seen kernel.old).journal ≡ [] }
+        ensures answer { IsStarted result (K.seen kernel.old) (K.seen kernel.new) }
+        ensures kept { IfOk result (λ controller. IsKept controller (K.seen kernel.new)) }
+
+        // behind it every packet goes where the policy says
+        ensures sends { IfOk result (λ controller. SendsByPolicy controller (K.seen kernel.new)) }
+
+        // each answer by its cause
+        ensures caused { HasStartCause result (K.seen kernel.old) (K.seen kernel.new) }
+
+        // at every moment between two requests
+        ensures moments { KeepsPolicy (K.seen kernel.old) (K.seen kernel.new) start start }
+    {
+        start_law();
+        own_rule_means_start();
+        table_means_policy();
+        Controller::ask_start(alloc, kernel)
     }
 
     /// The state of the policy.
@@ -135,7 +177,7 @@ impl Controller {
             Err(StepFault::Refused { code }) => return Answer::Refused { code },
             Err(StepFault::Memory(_)) => return Answer::NoMemory,
         };
-        let plan = match plan(self.alloc, &self.state, &new) {
+        let plan = match plan(self.alloc, &self.state, &new, command) {
             Ok(plan) => plan,
             Err(_) => return Answer::NoMemory,
         };
@@ -144,10 +186,11 @@ impl Controller {
                 code: Code::NoSpace,
             };
         };
-        if let Err(_) = kernel.reserve(most) {
+        if let Err(_) = make_room(kernel, &plan, most) {
             return Answer::NoMemory;
         }
-        switch_may_be_carried();
+        command.fits_types();
+        requests_can_be_asked();
         plan_ends();
         match carry(&plan, kernel) {
             Carried::Done => {
@@ -162,9 +205,8 @@ impl Controller {
         }
     }
 
-    /// Brings the kernel to the state that the command gives. The new state, the plan and the kernel's room are made
-    /// first, so that nothing can want memory from the first request on. A controller that has halted asks nothing.
-    pub fn apply<K: Kernel>(&mut self, kernel: &mut K, command: &Command) -> Answer
+    // Answers a command, asking nothing where the controller has halted.
+    fn answer<K: Kernel>(&mut self, kernel: &mut K, command: &Command) -> Answer
         requires { IsKept self.old (K.seen kernel.old) }
         ensures answer { IsAnswered result command.now self.old self.new (K.seen kernel.old) (K.seen kernel.new) }
         ensures kept { IsKept self.new (K.seen kernel.new) }
@@ -173,5 +215,30 @@ impl Controller {
             Some(request) => Answer::Halted { request },
             None => self.take(kernel, command),
         }
+    }
+
+    /// Brings the kernel to the state that the command gives. The new state, the plan and the kernel's room are made
+    /// first, so that nothing can want memory from the first request on. A controller that has halted asks nothing.
+    pub fn apply<K: Kernel>(&mut self, kernel: &mut K, command: &Command) -> Answer
+        requires { IsKept self.old (K.seen kernel.old) }
+        ensures answer { IsAnswered result command.now self.old self.new (K.seen kernel.old) (K.seen kernel.new) }
+        ensures kept { IsKept self.new (K.seen kernel.new) }
+
+        // behind it every packet goes where the policy says, unless the controller has halted
+        ensures sends { SendsByPolicy self.new (K.seen kernel.new) }
+
+        // each answer by its cause
+        ensures caused { HasCause result command.now self.old self.new (K.seen kernel.old) (K.seen kernel.new) }
+
+        // at every moment between two requests, undoing and halts included
+        ensures moments { self.old.halted ≡ None → KeepsPolicy (K.seen kernel.old) (K.seen kernel.new) self.old.state (changed self.old.state command.now) }
+        ensures locked { self.old.halted ≡ None → KeepsLockdown (K.seen kernel.old) (K.seen kernel.new) self.old.state (changed self.old.state command.now) }
+    {
+        command.fits_types();
+        plan_law();
+        plan_ends();
+        table_means_policy();
+        barred_stays_in();
+        self.answer(kernel, command)
     }
 }

@@ -1,7 +1,7 @@
 -- How a session ends, from how far it had come.
 use Rattle.std.proofs.Common.{◌≡◌, ◌∙◌, ◌⊎◌, ℕ, ◌+◌, ◌<◌, ◌≤◌, Bool, true, List, [], ◌∷◌, ◌++◌, length, take, Option, None, Some, Result, Ok, Err, inl, inr, refl, sym, ap, subst, append_assoc, arith, length-append}
 use Rattle.std.proofs.lemmas.List.{take_all}
-use Rattle.std.specs.Io.KnownBytes.{Consumes, Appends}
+use Rattle.std.specs.Io.KnownBytes.{Consumes, Appends, IsAtEnd}
 use Rattle.line_input.specs.Cut.{AreFed, IsCut}
 use Rattle.line_input.specs.Lines.{AreMet, line_limit, input_limit}
 use Rattle.line_input.specs.Looks.{Outside, Looks, held, line_of}
@@ -13,10 +13,11 @@ use Rattle.line_input.specs.declared.input.InputFault.TheVariants.{Read, TooLong
 use Rattle.line_input.proofs.Looked.{consumes_both}
 use Rattle.line_input.proofs.MetLines.{all_met, met_at_end, met_past_limit, met_at_line, cut_on, some_met, fed_more, Meets}
 use Rattle.kernel_model.specs.View.{KernelView}
+use Rattle.net_control.specs.Moments.{SendsByPolicy}
 use Rattle.net_control.specs.View.{ControllerView, IsKept}
 use Rattle.script_reader.specs.BadLines.{IsBadAt}
 use Rattle.netd_session.specs.Coming.{HasCome}
-use Rattle.netd_session.specs.Ending.{World, HasBegun, EndsInput, IsSession, HasReadFault}
+use Rattle.netd_session.specs.Ending.{World, HasBegun, HasGiven, EndsInput, IsSession, HasReadFault}
 use Rattle.netd_session.specs.Offers.{Written}
 use Rattle.netd_session.specs.Talks.{standing, IsBad, EndsLine, HasWriteFault, Takes}
 use Rattle.netd_session.specs.Turns.{Standing, Goes, Ran, one_more}
@@ -48,18 +49,20 @@ after_read w o = record w { left = o.left; read_faults = o.faults; ended = o.end
 module _ (begun : Standing) (before : KernelView) (began : HasBegun before begun) (old w : World) (c : ControllerView) (turns : List Turn) (count : ℕ) (held_before : List ℕ) (number : ℕ) (h : HasCome begun old w c turns count held_before number) (input : Input) (o : Outside) where
   -- what the session says that ends so
   at_input : (s : Status) → (more : List ℕ) → Consumes w.left o.left more → AreMet (h.given ++ more) o.ended h.lines
-      → HasReadFault s old.read_faults o.faults → HasWriteFault s old.write_faults w.write_faults → EndsInput s o.ended (length (h.given ++ more))
+      → HasReadFault s old.read_faults o.faults → HasWriteFault s old.write_faults w.write_faults → HasGiven s (length (h.given ++ more)) → (o.ended ≡ true → IsAtEnd o.left) → EndsInput s o.ended (length (h.given ++ more))
       → IsSession (record old { kernel = before }) (after_read w o) (record { status = s; turns = turns })
-  at_input s more read met read_fault write_fault ends = record {
+  at_input s more read met read_fault write_fault few none_left ends = record {
     given = h.given ++ more;
     read = consumes_both old.left w.left o.left h.given more h.read read;
     lines = h.lines;
     met = met;
+    few = few;
+    none_left = none_left;
     out = h.out;
     written = h.written;
     read_fault = read_fault;
     write_fault = write_fault;
-    ending = inr (inr record { stands = standing c w.kernel; run = record { begun = begun; began = began; ran = h.run }; ends = ends; kernel_is = refl });
+    ending = inr (inr record { stands = standing c w.kernel; run = record { begun = begun; began = began; ran = h.run }; running = h.running; ends = ends; kernel_is = refl });
   }
 
   more_count : (l : List ℕ) → input.given ≡ count + length l → input.given ≡ length (h.given ++ l)
@@ -70,14 +73,14 @@ module _ (begun : Standing) (before : KernelView) (began : HasBegun before begun
       let few : length (h.given ++ l.more) ≤ input_limit = omega (arith, more_count l.more l.counted, l.found.3) in
       at_input status.Finished l.more l.taken
       (all_met o.ended (h.given ++ l.more) h.lines [] (subst (λ (b : List ℕ). AreFed (h.given ++ l.more) h.lines b) l.found.0 (fed_more h.given h.lines held_before l.more h.cut)) refl (omega arith) (inr refl) few)
-      (l.found.4 ∙ h.no_read_fault) h.no_write_fault (l.found.5, few)
+      (l.found.4 ∙ h.no_read_fault) h.no_write_fault few l.none_left (l.found.5, few)
 
   pub read_failed : Looks held_before count input (outside w) o (Err Read) → IsSession (record old { kernel = before }) (after_read w o) (record { status = status.ReadFault; turns = turns })
   read_failed l =
       let few : length (h.given ++ l.more) ≤ input_limit = omega (arith, more_count l.more l.counted, l.found.3) in
       at_input status.ReadFault l.more l.taken
       (all_met o.ended (h.given ++ l.more) h.lines (line_of input) (subst (λ (b : List ℕ). AreFed (h.given ++ l.more) h.lines b) l.found.0 (fed_more h.given h.lines held_before l.more h.cut)) l.one_line l.found.1 (inl l.found.5) few)
-      (omega (arith, l.found.4, h.no_read_fault)) h.no_write_fault few
+      (omega (arith, l.found.4, h.no_read_fault)) h.no_write_fault few l.none_left few
 
   pub input_too_long : Looks held_before count input (outside w) o (Err TooLong) → IsSession (record old { kernel = before }) (after_read w o) (record { status = status.TooLong; turns = turns })
   input_too_long l =
@@ -85,7 +88,7 @@ module _ (begun : Standing) (before : KernelView) (began : HasBegun before begun
       at_input status.TooLong l.more l.taken
       (subst (λ (b : Bool). AreMet (h.given ++ l.more) b h.lines) (sym l.found.5)
       (met_past_limit (h.given ++ l.more) h.lines (line_of input) (held input) (subst (λ (b : List ℕ). AreFed (h.given ++ l.more) h.lines b) l.found.0 (fed_more h.given h.lines held_before l.more h.cut)) l.one_line l.found.1 l.found.2 many))
-      (l.found.4 ∙ h.no_read_fault) h.no_write_fault (omega (arith, many))
+      (l.found.4 ∙ h.no_read_fault) h.no_write_fault many l.none_left (omega (arith, many))
 
 -- a text that is too long is bad whatever follows it, at the same column
 long_bad : (text full : List ℕ) (n : ℕ) (s e : Standing) (more : List Turn) (out : List ℕ) → line_limit < length text → line_limit < length full
@@ -138,6 +141,19 @@ no_read_fault status.Halted text n a e more out taken old new ends same = same
 no_read_fault status.StartRefused text n a e more out taken old new ends same = absurd ends
 no_read_fault status.TooLong text n a e more out taken old new ends same = absurd ends
 
+-- a line that ends the session lies within what an input may have
+few_at_line : (s : Status) (text : List ℕ) (n : ℕ) (a e : Standing) (more : List Turn) (out : List ℕ) (taken : ℕ) (count : ℕ)
+    → EndsLine s text n a e more out taken → count ≤ input_limit → HasGiven s count
+few_at_line status.Finished text n a e more out taken count ends few = few
+few_at_line status.BadWords text n a e more out taken count ends few = few
+few_at_line status.BadLine text n a e more out taken count ends few = few
+few_at_line status.ReadFault text n a e more out taken count ends few = few
+few_at_line status.WriteFault text n a e more out taken count ends few = few
+few_at_line status.Memory text n a e more out taken count ends few = few
+few_at_line status.Halted text n a e more out taken count ends few = few
+few_at_line status.StartRefused text n a e more out taken count ends few = few
+few_at_line status.TooLong text n a e more out taken count ends few = absurd ends
+
 -- the faults of the sink, counted from the start
 write_fault_from : (s : Status) (old mid new : ℕ) → mid ≡ old → HasWriteFault s mid new → HasWriteFault s old new
 write_fault_from s old mid new same fault = subst (λ (n : ℕ). HasWriteFault s n new) same fault
@@ -168,6 +184,8 @@ module _ (begun : Standing) (old w : World) (c d : ControllerView) (turns after 
         read = consumes_both old.left w.left o.left h.given l.more h.read l.taken;
         lines = h.lines ++ m.full ∷ m.behind;
         met = m.met;
+        few = few_at_line s (line_of input) (number + 1) (standing c w.kernel) (standing d kernel) t.more t.out t.taken (length (h.given ++ l.more)) t.outcome.0 few_now;
+        none_left = l.none_left;
         out = h.out ++ take t.taken t.out;
         written = appends_both old.written w.written sink.bytes h.out (take t.taken t.out) h.written t.written;
         read_fault = no_read_fault s (line_of input) (number + 1) (standing c w.kernel) (standing d kernel) t.more t.out t.taken old.read_faults o.faults t.outcome.0 (l.found.2 ∙ h.no_read_fault);
@@ -185,6 +203,7 @@ module _ (begun : Standing) (old w : World) (c d : ControllerView) (turns after 
           last = t.out;
           taken = t.taken;
           run = record { begun = begun; began = began; ran = h.run };
+          running = h.running;
           ends = of_full s (line_of input) m.full (length h.lines + 1) (standing c w.kernel) (standing d kernel) t.more t.out t.taken m.same
               (subst (λ (n : ℕ). EndsLine s (line_of input) (n + 1) (standing c w.kernel) (standing d kernel) t.more t.out t.taken) h.numbered t.outcome.0);
           kernel_is = refl;
@@ -231,9 +250,9 @@ module _ (begun : Standing) (old w : World) (c d : ControllerView) (turns after 
     cut_more : IsCut o.ended (h.given ++ l.more) (h.lines ++ line_of input ∷ []) (held input)
     cut_more = cut_on o.ended (h.given ++ l.more) h.lines (line_of input) l.found.0.0 (held input) cut_now l.one_line l.found.0.2 short_now
 
-    come_on : IsKept d kernel → AreFed (h.given ++ l.more) (h.lines ++ line_of input ∷ []) (held input)
+    come_on : IsKept d kernel → SendsByPolicy d kernel → AreFed (h.given ++ l.more) (h.lines ++ line_of input ∷ []) (held input)
         → HasCome begun old (after_line (after_read w o) sink kernel) d after input.given (held input) (number + 1)
-    come_on kept fed_so_far = record {
+    come_on kept sends fed_so_far = record {
       given = h.given ++ l.more;
       read = bytes_now;
       counted = count_now;
@@ -247,18 +266,19 @@ module _ (begun : Standing) (old w : World) (c d : ControllerView) (turns after 
       run = run_now;
       running = t.outcome.1;
       kept = kept;
+      sends = sends;
       no_read_fault = l.found.2 ∙ h.no_read_fault;
       no_write_fault = t.outcome.3 ∙ h.no_write_fault;
     }
 
     -- the source has not ended, or bytes are held
-    pub goes_on : IsKept d kernel → (o.ended ≡ true → held input ≡ [] → ⊥)
+    pub goes_on : IsKept d kernel → SendsByPolicy d kernel → (o.ended ≡ true → held input ≡ [] → ⊥)
         → HasCome begun old (after_line (after_read w o) sink kernel) d after input.given (held input) (number + 1)
-    goes_on kept either = by_cut cut_more
+    goes_on kept sends either = by_cut cut_more
       where
         by_cut : IsCut o.ended (h.given ++ l.more) (h.lines ++ line_of input ∷ []) (held input)
             → HasCome begun old (after_line (after_read w o) sink kernel) d after input.given (held input) (number + 1)
-        by_cut (inl fed_so_far) = come_on kept fed_so_far
+        by_cut (inl fed_so_far) = come_on kept sends fed_so_far
         by_cut (inr last) = absurd (either last.at_end last.none_held)
 
     -- the source has ended, and no bytes are held
@@ -268,6 +288,8 @@ module _ (begun : Standing) (old w : World) (c d : ControllerView) (turns after 
       read = bytes_now;
       lines = h.lines ++ line_of input ∷ [];
       met = by_cut cut_more;
+      few = few_now;
+      none_left = l.none_left;
       out = h.out ++ take t.taken t.out;
       written = written_now;
       read_fault = l.found.2 ∙ h.no_read_fault;
@@ -275,6 +297,7 @@ module _ (begun : Standing) (old w : World) (c d : ControllerView) (turns after 
       ending = inr (inr record {
         stands = standing d kernel;
         run = record { begun = begun; began = began; ran = run_now };
+        running = t.outcome.1;
         ends = (ended, few_now);
         kernel_is = refl;
       });

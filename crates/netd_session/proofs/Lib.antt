@@ -1,4 +1,4 @@
 pub mod Ends
 pub mod Taking
 pub mod Starting
-pub mod Policed
+pub mod Causing

@@ -3,6 +3,7 @@ use Rattle.std.specs.Prelude.{◌≡◌, ℕ, ◌+◌, ◌≤◌, List, length, 
 use Rattle.std.specs.Io.KnownBytes.{Consumes, Appends}
 use Rattle.line_input.specs.Cut.{AreFed}
 use Rattle.line_input.specs.Lines.{input_limit}
+use Rattle.net_control.specs.Moments.{SendsByPolicy}
 use Rattle.net_control.specs.View.{ControllerView, IsKept}
 use Rattle.netd_session.specs.Ending.{World}
 use Rattle.netd_session.specs.Talks.{standing}
@@ -24,5 +25,6 @@ pub record HasCome (begun : Standing) (old new : World) (controller : Controller
   pub run : Ran begun lines (standing controller new.kernel) turns out
   pub running : controller.halted ≡ None
   pub kept : IsKept controller new.kernel
+  pub sends : SendsByPolicy controller new.kernel
   pub no_read_fault : new.read_faults ≡ old.read_faults
   pub no_write_fault : new.write_faults ≡ old.write_faults

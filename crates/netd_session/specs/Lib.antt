@@ -3,9 +3,9 @@ pub mod StatusNumber
 pub mod EndedView
 pub mod Says
 pub mod Went
-pub mod Moments
 pub mod Turns
 pub mod Talks
 pub mod Ending
 pub mod Coming
 pub mod Starts
+pub mod Causes

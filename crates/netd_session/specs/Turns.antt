@@ -9,6 +9,8 @@ use Rattle.policy_meaning.specs.Policy.{policy}
 use Rattle.policy_state.specs.Step.{changed}
 use Rattle.policy_state.specs.declared.command.Command.{Command}
 use Rattle.net_control.specs.Applied.{IsAnswered}
+use Rattle.net_control.specs.Causes.{HasCause}
+use Rattle.net_control.specs.Moments.{KeepsLockdown, KeepsPolicy, SendsByPolicy}
 use Rattle.net_control.specs.View.{ControllerView, IsKept}
 use Rattle.net_control.specs.declared.controller.Answer.{Answer}
 use Rattle.script_reader.specs.Lines.{Spells}
@@ -17,7 +19,6 @@ use Rattle.script_reader.specs.declared.line.Line.TheVariants as line
 use Rattle.script_reader.specs.declared.line.TraceLine.TheVariants as trace
 use Rattle.script_reader.specs.declared.line.ShowLine.TheVariants as show
 use Rattle.report_text.specs.RuleTexts.{rules_text}
-use Rattle.netd_session.specs.Moments.{KeepsPolicy}
 use Rattle.netd_session.specs.Says.{Says}
 use Rattle.netd_session.specs.Went.{went_text}
 use Rattle.turn_text.specs.Texts.{numbered, answer_text}
@@ -38,12 +39,18 @@ turn_of n s e = record { line = n; said = s; journal_end = length e.kernel.journ
 abbrev pub IsPassedOver : (s e : Standing) → List Turn → List ℕ → Type 0
 IsPassedOver s e turns out = (e ≡ s) × (turns ≡ []) × (out ≡ [])
 
--- a command is answered by the controller, and at every moment of it packets go where the policy before or after it says
-abbrev pub IsCommanded : Command → ℕ → (s e : Standing) → List Turn → List ℕ → Type 0
-IsCommanded command n s e turns out =
-    (a : Answer) × (what : Said) × IsAnswered a command s.controller e.controller s.kernel e.kernel × Says what a
-    × (turns ≡ turn_of n what e ∷ []) × (out ≡ numbered n (answer_text a))
-    × KeepsPolicy s.kernel e.kernel s.controller.state (changed s.controller.state command)
+-- A command is answered by the controller, each answer by its cause. At every moment of it packets go where the policy
+-- before or after it says, and lockdown holds.
+pub record IsCommanded (command : Command) (n : ℕ) (s e : Standing) (turns : List Turn) (out : List ℕ) : Type 0 where
+  pub a : Answer
+  pub what : Said
+  pub answered : IsAnswered a command s.controller e.controller s.kernel e.kernel
+  pub caused : HasCause a command s.controller e.controller s.kernel e.kernel
+  pub says : Says what a
+  pub turns_are : turns ≡ turn_of n what e ∷ []
+  pub text : out ≡ numbered n (answer_text a)
+  pub moments : KeepsPolicy s.kernel e.kernel s.controller.state (changed s.controller.state command)
+  pub locked : KeepsLockdown s.kernel e.kernel s.controller.state (changed s.controller.state command)
 
 -- a packet's line says where the policy sends it, and prints the rules that it meets on the way
 abbrev pub IsTraced : Packet → ℕ → (s e : Standing) → List Turn → List ℕ → Type 0
@@ -62,13 +69,14 @@ IsAnsweredLine (line.Show (show.Rules family)) n s e turns out =
     (e ≡ s) × (turns ≡ turn_of n said.Shown e ∷ [])
     × (out ≡ numbered n (rules_text s.controller.state (rules_of (state_of s.kernel) family)))
 
--- a line of the grammar, with its number, in these turns and this text; behind it the kernel stands for the state, unless
--- the controller has halted
+-- A line of the grammar, with its number, in these turns and this text. Behind it, unless the controller has halted, the
+-- kernel stands for the state and sends every packet where the policy does.
 pub record Goes (text : List ℕ) (n : ℕ) (s e : Standing) (turns : List Turn) (out : List ℕ) : Type 0 where
   pub line : Line
   pub spelled : Spells text line
   pub answered : IsAnsweredLine line n s e turns out
   pub kept : IsKept e.controller e.kernel
+  pub sends : SendsByPolicy e.controller e.kernel
 
 -- The lines so far, each answered in turn by a controller that runs.
 pub data Ran (begun : Standing) : List (List ℕ) → Standing → List Turn → List ℕ → Type 0 where

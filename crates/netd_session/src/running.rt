@@ -1,12 +1,11 @@
-ghost use Rattle.std.specs.Prelude.{◌≡◌, false, [], None, Ok, IfOk};
+ghost use Rattle.std.specs.Prelude.{◌≡◌, false, [], None};
 ghost use Rattle.net_io.specs.Streams.{CanCount};
 ghost use Rattle.kernel_model.specs.View.{KernelView};
-ghost use Rattle.net_control.specs.Started.{IsStarted};
+ghost use Rattle.net_control.specs.Moments.{SendsByPolicy};
 ghost use Rattle.net_control.specs.View.{IsKept};
+ghost use Rattle.netd_session.specs.Causes.{IsCausedSession};
 ghost use Rattle.netd_session.specs.Ending.{HasBegun, IsSession};
-ghost use Rattle.netd_session.specs.Moments.{KeepsPolicy};
 ghost use Rattle.netd_session.specs.Talks.{standing};
-ghost use Rattle.policy_state.specs.View.{start};
 ghost use Rattle.netd_session.specs.Starts.{TellsStart};
 
 use crate::output::offer;
@@ -17,8 +16,6 @@ use kernel_model::Kernel;
 use line_input::{Input, InputFault, Met};
 use net_control::{Controller, StartFault};
 use net_io::{Sink, Source, WriteFault};
-use policy_meaning::{own_rule_means_start, table_means_policy};
-use rule_compile::start_law;
 use std::alloc::Global;
 use turn_text::{write_start_halted, write_start_refused};
 
@@ -49,19 +46,6 @@ fn tell_start<W: Sink>(fault: StartFault, mut text: Vec<u8>, sink: &mut W) -> St
     }
 }
 
-// Starts a controller. All the while packets go where the first state's policy says.
-fn begin<K: Kernel>(alloc: Global, kernel: &mut K) -> Result<Controller, StartFault>
-    requires { (K.seen kernel.old).journal ≡ [] }
-    ensures answer { IsStarted result (K.seen kernel.old) (K.seen kernel.new) }
-    ensures kept { IfOk result (λ controller. IsKept controller (K.seen kernel.new)) }
-    ensures moments { KeepsPolicy (K.seen kernel.old) (K.seen kernel.new) start start }
-{
-    start_law();
-    own_rule_means_start();
-    table_means_policy();
-    Controller::start(alloc, kernel)
-}
-
 // Answers each line before the next is read, until an end.
 fn answer_lines<S: Source, W: Sink, K: Kernel>(
     source: &mut S,
@@ -73,6 +57,7 @@ fn answer_lines<S: Source, W: Sink, K: Kernel>(
     requires writes { CanCount (W.faults sink.old) }
     requires not_ended { S.ended source.old ≡ false }
     requires kept { IsKept talk.old.controller (K.seen kernel.old) }
+    requires sends { SendsByPolicy talk.old.controller (K.seen kernel.old) }
     requires runs { talk.old.controller.halted ≡ None }
     requires no_turn { talk.old.turns.items ≡ [] }
     ensures { (before : KernelView) → HasBegun before (standing talk.old.controller (K.seen kernel.old)) → IsSession
@@ -111,7 +96,13 @@ pub fn session<S: Source, W: Sink, K: Kernel>(
     requires reads { CanCount (S.faults source.old) }
     requires writes { CanCount (W.faults sink.old) }
     requires not_ended { S.ended source.old ≡ false }
-    ensures { IsSession
+    ensures session { IsSession
+        (record { left = S.left source.old; read_faults = S.faults source.old; ended = S.ended source.old; written = W.written sink.old; write_faults = W.faults sink.old; kernel = K.seen kernel.old })
+        (record { left = S.left source.new; read_faults = S.faults source.new; ended = S.ended source.new; written = W.written sink.new; write_faults = W.faults sink.new; kernel = K.seen kernel.new })
+        result }
+
+    // why it ended so, and what stands then
+    ensures causes { IsCausedSession
         (record { left = S.left source.old; read_faults = S.faults source.old; ended = S.ended source.old; written = W.written sink.old; write_faults = W.faults sink.old; kernel = K.seen kernel.old })
         (record { left = S.left source.new; read_faults = S.faults source.new; ended = S.ended source.new; written = W.written sink.new; write_faults = W.faults sink.new; kernel = K.seen kernel.new })
         result }
@@ -119,7 +110,7 @@ pub fn session<S: Source, W: Sink, K: Kernel>(
     let Ok(text) = Vec::with_capacity(alloc, START_ROOM) else {
         return Ended::of(Status::Memory, Vec::new(alloc));
     };
-    match begin(alloc, kernel) {
+    match Controller::start(alloc, kernel) {
         Ok(controller) => {
             let mut talk = Talk::new(alloc, controller, text);
             let status = answer_lines(source, sink, kernel, &mut talk);

@@ -5,10 +5,8 @@ ghost use Rattle.turn_text.specs.Texts.{IsCounted, numbered};
 ghost use Rattle.kernel_model.specs.State.{rules_of};
 ghost use Rattle.kernel_model.specs.View.{state_of};
 ghost use Rattle.kernel_model.specs.Walk.{trail_of};
-ghost use Rattle.net_control.specs.Applied.{IsAnswered};
+ghost use Rattle.net_control.specs.Moments.{SendsByPolicy};
 ghost use Rattle.net_control.specs.View.{IsKept};
-ghost use Rattle.netd_session.specs.Moments.{KeepsPolicy};
-ghost use Rattle.policy_state.specs.Step.{changed};
 ghost use Rattle.policy_meaning.specs.Policy.{policy};
 ghost use Rattle.report_text.specs.RuleTexts.{rules_text};
 ghost use Rattle.netd_session.specs.Says.{Says};
@@ -26,7 +24,6 @@ use policy_meaning::table_means_policy;
 use policy_state::{Command, State};
 use prefixes::{Addr, Family};
 use report_text::{write_rules, write_trail, write_verdict};
-use rule_compile::{plan_ends, plan_law};
 use rule_match::{Packet, Verdict};
 use script_reader::{Line, LineFault, ShowLine, TraceLine, read_line, write_mark};
 use std::alloc::{AllocError, Global};
@@ -49,23 +46,6 @@ fn said_of(answer: Answer) -> Option<Said>
         Answer::Halted { request } => Some(Said::Halted { request }),
         Answer::NoMemory => None,
     }
-}
-
-// Carries a command out. All the while packets go where the policy before or after it says.
-fn carry_command<K: Kernel>(
-    controller: &mut Controller,
-    kernel: &mut K,
-    command: &Command,
-) -> Answer
-    requires kept { IsKept controller.old (K.seen kernel.old) }
-    ensures answer { IsAnswered result command.now controller.old controller.new (K.seen kernel.old) (K.seen kernel.new) }
-    ensures kept { IsKept controller.new (K.seen kernel.new) }
-    ensures moments { controller.old.halted ≡ None → KeepsPolicy (K.seen kernel.old) (K.seen kernel.new) controller.old.state (changed controller.old.state command.now) }
-{
-    plan_law();
-    plan_ends();
-    table_means_policy();
-    controller.apply(kernel, command)
 }
 
 // Puts a turn last, in the room that is there.
@@ -177,14 +157,16 @@ impl Talk {
         kernel: &mut K,
     ) -> Result<(), AllocError>
         requires kept { IsKept self.old.controller (K.seen kernel.old) }
+        requires sends { SendsByPolicy self.old.controller (K.seen kernel.old) }
         requires runs { self.old.controller.halted ≡ None }
         requires empty { self.old.answer.items ≡ [] }
         ensures answers { Answers result (line.Control command.now) number (standing self.old.controller (K.seen kernel.old)) (standing self.new.controller (K.seen kernel.new)) self.old.turns.items self.new.turns.items self.new.answer.items }
         ensures kept { IsKept self.new.controller (K.seen kernel.new) }
+        ensures sends { SendsByPolicy self.new.controller (K.seen kernel.new) }
     {
         self.turns.reserve(1)?;
         self.answer.reserve(ANSWER_ROOM)?;
-        let answer = carry_command(&mut self.controller, kernel, command);
+        let answer = self.controller.apply(kernel, command);
         let Some(said) = said_of(answer) else {
             return Err(AllocError);
         };
@@ -279,10 +261,12 @@ impl Talk {
         kernel: &mut K,
     ) -> Result<(), AllocError>
         requires kept { IsKept self.old.controller (K.seen kernel.old) }
+        requires sends { SendsByPolicy self.old.controller (K.seen kernel.old) }
         requires runs { self.old.controller.halted ≡ None }
         requires empty { self.old.answer.items ≡ [] }
         ensures answers { Answers result line.now number (standing self.old.controller (K.seen kernel.old)) (standing self.new.controller (K.seen kernel.new)) self.old.turns.items self.new.turns.items self.new.answer.items }
         ensures kept { IsKept self.new.controller (K.seen kernel.new) }
+        ensures sends { SendsByPolicy self.new.controller (K.seen kernel.new) }
     {
         match line {
             Line::Blank => Ok(()),
@@ -339,10 +323,12 @@ impl Talk {
     ) -> Option<Status>
         requires count { CanCount (W.faults sink.old) }
         requires kept { IsKept self.old.controller (K.seen kernel.old) }
+        requires sends { SendsByPolicy self.old.controller (K.seen kernel.old) }
         requires runs { self.old.controller.halted ≡ None }
         ensures takes { Takes result text.now number (standing self.old.controller (K.seen kernel.old)) (standing self.new.controller (K.seen kernel.new)) self.old.turns.items self.new.turns.items
             (record { bytes = W.written sink.old; faults = W.faults sink.old }) (record { bytes = W.written sink.new; faults = W.faults sink.new }) }
         ensures kept { IsKept self.new.controller (K.seen kernel.new) }
+        ensures sends { SendsByPolicy self.new.controller (K.seen kernel.new) }
     {
         self.answer.clear();
         match read_line(self.alloc, text) {

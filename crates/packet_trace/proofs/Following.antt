@@ -16,7 +16,7 @@ use Rattle.kernel_model.specs.State.{NumberedTable}
 use Rattle.kernel_model.specs.Walk.{rule_gives, trail_rules, step_of}
 use Rattle.kernel_model.specs.declared.step.Step.{Step}
 
-take_next : {X : Type 0} (xs : List X) (i : ℕ) (x : X) → slice_get xs i ≡ Some x → take (i + 1) xs ≡ take i xs ++ x ∷ []
+pub take_next : {X : Type 0} (xs : List X) (i : ℕ) (x : X) → slice_get xs i ≡ Some x → take (i + 1) xs ≡ take i xs ++ x ∷ []
 take_next {X = X} xs i x h = rw add-one (go xs i h)
   where
     go : (xs : List X) (i : ℕ) → slice_get xs i ≡ Some x → take (suc i) xs ≡ take i xs ++ x ∷ []

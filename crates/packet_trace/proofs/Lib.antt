@@ -1,2 +1,2 @@
 mod Changed
-mod Following
+pub mod Following

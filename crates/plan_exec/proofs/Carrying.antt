@@ -1,5 +1,5 @@
 -- A plan that may be carried out may be asked for in turn.
-use Rattle.std.proofs.Common.{◌≡◌, ℕ, zero, suc, ◌+◌, ◌≤◌, true, false, List, [], ◌∷◌, ◌++◌, length, map, take, reverse, Option, Some, sym, ◌∙◌, ap, subst, arith}
+use Rattle.std.proofs.Common.{◌≡◌, ℕ, zero, suc, ◌+◌, ◌≤◌, true, false, List, [], ◌∷◌, ◌++◌, length, map, take, reverse, Option, Some, inl, inr, sym, ◌∙◌, ap, subst, arith}
 use Rattle.std.specs.List.{AllByRecursion}
 use Rattle.std.proofs.lemmas.Bool.{false≢true, both_ways}
 use Rattle.std.proofs.lemmas.List.{reverse-append}
@@ -20,8 +20,9 @@ use Rattle.std.proofs.lemmas.List.{length-take, length-map, length-reverse}
 use Rattle.std.proofs.lemmas.Option.{slice_get_within}
 use Rattle.kernel_model.specs.PlanView.{PlanView}
 use Rattle.plan_exec.proofs.Forms.{spare-after}
-use Rattle.plan_exec.specs.MayCarry.{Distinct, ReadyFor, MayCarry}
-use Rattle.plan_exec.specs.InTurn.{Standing, noted, after, MayAddInTurn, MayDeleteInTurn, RefusedAt}
+use Rattle.kernel_model.specs.Same.{Distinct}
+use Rattle.plan_exec.specs.MayCarry.{ReadyFor, MayCarry}
+use Rattle.plan_exec.specs.InTurn.{Standing, noted, after, MayAdd, MayAddInTurn, MayDeleteInTurn, RefusedAt}
 
 -- what an entry makes of the kernel
 pub state-noted : (k : Standing) (kind : EntryKind) (q : Request) → state_of (noted k (entry kind q)).seen ≡ act (state_of k.seen) kind q
@@ -41,25 +42,29 @@ absent_still k q (p ∷ ps) apart one all = (
   absent_still k q ps apart.1 (λ a. (one a).1) all.1,
 )
 
-pub rules_ready : (qs : List Request) (ready : Option ℕ) → AllByRecursion (λ q. is_route q ≡ false) qs → ReadyFor qs ready
-rules_ready [] ready rules = tt
-rules_ready (req.Rule family rule ∷ qs) ready rules = rules.1
-rules_ready (req.Route n route ∷ qs) ready rules = absurd (false≢true (sym rules.0))
+-- each rule may be asked for when its turn comes
+may_add_rules : (k : Standing) (qs : List Request) → Distinct qs → AllByRecursion (λ p. is_absent (state_of k.seen) p ≡ true) qs → length qs ≤ k.room.spare → AllByRecursion (λ p. is_route p ≡ false) qs → MayAddInTurn k qs
+may_add_rules k [] apart all room rules = tt
+may_add_rules k (req.Rule family rule ∷ qs) apart all room rules = (
+  record { absent = all.0; room = omega (arith, room); ready = λ n route e. cc },
+  may_add_rules (noted k (entry Added (req.Rule family rule))) qs apart.1 (absent_still k (req.Rule family rule) qs apart.0 (λ a. absurd (false≢true a)) all.1) (omega (arith, room)) rules.1,
+)
+may_add_rules k (req.Route n route ∷ qs) apart all room rules = absurd (false≢true (sym rules.0))
 
 -- each addition may be asked for when its turn comes
 pub may_add : (k : Standing) (qs : List Request) → Distinct qs → AllByRecursion (λ p. is_absent (state_of k.seen) p ≡ true) qs → length qs ≤ k.room.spare → ReadyFor qs k.room.ready → MayAddInTurn k qs
-may_add k [] apart all room ready = tt
-may_add k (req.Rule family rule ∷ qs) apart all room ready = (
-  record { absent = all.0; room = omega (arith, room); ready = λ n route e. cc },
-  may_add (noted k (entry Added (req.Rule family rule))) qs apart.1 (absent_still k (req.Rule family rule) qs apart.0 (λ a. absurd (false≢true a)) all.1) (omega (arith, room)) (rules_ready qs k.room.ready ready),
-)
-may_add k (req.Route m a ∷ qs) apart all room ready = (
-  record { absent = all.0; room = omega (arith, room); ready = λ n route e. ready.1 ∙ same_table n route e },
-  subst (MayAddInTurn (noted k (entry Added (req.Route m a)))) (sym ready.0) tt,
-)
+may_add k qs apart all room (inl rules) = may_add_rules k qs apart all room rules
+may_add k qs apart all room (inr (m, a, is, ready)) = subst (MayAddInTurn k) (sym is) (alone, tt)
   where
     same_table : (n : ℕ) (route : Route) → req.Route m a ≡ req.Route n route → ◌≡◌ {A = Option ℕ} (Some m) (Some n)
     same_table n route e = cc
+
+    alone : MayAdd k (req.Route m a)
+    alone = record {
+      absent = (subst (AllByRecursion (λ p. is_absent (state_of k.seen) p ≡ true)) is all).0;
+      room = omega (arith, room, ap length is);
+      ready = λ n route e. ready ∙ same_table n route e;
+    }
 
 present_still : (k : Standing) (q : Request) (qs : List Request) → AllByRecursion (λ p. same_request q p ≡ false) qs → AllByRecursion (Present k) qs → AllByRecursion (Present (noted k (entry Deleted q))) qs
 present_still k q [] apart all = tt

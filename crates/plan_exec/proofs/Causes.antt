@@ -1,5 +1,5 @@
 -- What an answer tells of the refusals and the breaks, and of the kernel.
-use Rattle.std.proofs.Common.{◌≡◌, ℕ, zero, suc, ◌+◌, false, List, [], ◌∷◌, ◌++◌, length, take, filter, Option, Some, slice_get, refl, sym, ◌∙◌, ap, add-zero}
+use Rattle.std.proofs.Common.{◌≡◌, ℕ, zero, suc, ◌+◌, false, List, [], ◌∷◌, ◌++◌, length, take, filter, Option, Some, slice_get, inl, inr, sym, ◌∙◌, ap, subst, add-zero}
 use Rattle.std.specs.List.{AllByRecursion}
 use Rattle.std.proofs.lemmas.Bool.{and_parts}
 use Rattle.std.proofs.lemmas.Option.{none-some}
@@ -43,10 +43,12 @@ causes plan old new (Halted request) h =
 
 -- what is added before the place of an addition is rules
 rules_before : (adds : List Request) (ready : Option ℕ) (k : ℕ) (q : Request) → ReadyFor adds ready → slice_get adds k ≡ Some q → AllByRecursion (λ p. is_route p ≡ false) (take k adds)
-rules_before [] ready k q may next = absurd (none-some q next)
-rules_before (req.Rule f rule ∷ adds) ready k q may next = all-take (λ p. is_route p ≡ false) k (req.Rule f rule ∷ adds) (refl, may)
-rules_before (req.Route n route ∷ adds) ready zero q may next = tt
-rules_before (req.Route n route ∷ adds) ready (suc k) q may next = absurd (none-some q (ap (λ l. slice_get l k) (sym may.0) ∙ next))
+rules_before adds ready k q (inl rules) next = all-take (λ p. is_route p ≡ false) k adds rules
+rules_before adds ready k q (inr (n, route, is, room)) next = subst (λ qs. AllByRecursion (λ p. is_route p ≡ false) (take k qs)) (sym is) (none k (ap (λ qs. slice_get qs k) (sym is) ∙ next))
+  where
+    none : (j : ℕ) → slice_get (req.Route n route ∷ []) j ≡ Some q → AllByRecursion (λ p. is_route p ≡ false) (take j (req.Route n route ∷ []))
+    none zero there = tt
+    none (suc j) there = absurd (none-some q there)
 
 pub as_before : (plan : PlanView) (old new : KernelView) (room left : Room) (result : Carried) → MayCarry plan old room → IsSound new left → Carries plan old new result → IsAsBefore old new result
 as_before plan old new room left Done may sound h = tt

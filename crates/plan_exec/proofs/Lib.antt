@@ -2,4 +2,3 @@ mod Turns
 mod Carrying
 mod Forms
 mod Causes
-mod Switching

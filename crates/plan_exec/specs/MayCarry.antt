@@ -1,23 +1,17 @@
 -- When a plan may be carried out.
-use Rattle.std.specs.Prelude.{◌≡◌, ℕ, ◌+◌, ◌*◌, ◌≤◌, true, false, List, [], ◌∷◌, ◌++◌, length, Option, Some, ⊤}
+use Rattle.std.specs.Prelude.{◌≡◌, ◌⊎◌, ℕ, ◌+◌, ◌*◌, ◌≤◌, true, false, List, [], ◌∷◌, ◌++◌, length, Option, Some}
 use Rattle.std.specs.List.{AllByRecursion}
-use Rattle.kernel_model.specs.Same.{same_request}
+use Rattle.prefixes.specs.declared.route.Route.{Route}
+use Rattle.kernel_model.specs.Same.{Distinct}
 use Rattle.kernel_model.specs.State.{is_absent, is_present, is_route}
 use Rattle.kernel_model.specs.View.{KernelView, Room, state_of}
 use Rattle.kernel_model.specs.PlanView.{PlanView}
 use Rattle.kernel_model.specs.declared.request.Request.{Request}
 use Rattle.kernel_model.specs.declared.request.Request.TheVariants as req
 
--- none stands twice
-abbrev pub Distinct : List Request → Type 0
-Distinct [] = ⊤
-Distinct (q ∷ qs) = AllByRecursion (λ p. same_request q p ≡ false) qs × Distinct qs
-
 -- all are rules, or the only one is a route and the kernel is ready for its table
 abbrev pub ReadyFor : List Request → Option ℕ → Type 0
-ReadyFor [] ready = ⊤
-ReadyFor (req.Rule family rule ∷ qs) ready = AllByRecursion (λ q. is_route q ≡ false) qs
-ReadyFor (req.Route n route ∷ qs) ready = (qs ≡ []) × (ready ≡ Some n)
+ReadyFor adds ready = AllByRecursion (λ q. is_route q ≡ false) adds ⊎ ((n : ℕ) × (route : Route) × (adds ≡ req.Route n route ∷ []) × (ready ≡ Some n))
 
 -- what a plan asks of a kernel: the plan has no request twice, what it adds is absent and what it deletes is present, and there is room for carrying it out and for undoing it
 pub record MayCarry (plan : PlanView) (k : KernelView) (left : Room) : Type 0 where

@@ -1,16 +1,11 @@
 //! Carries a plan out on any kernel, and undoes it where an addition is refused.
 #![tactic(auto)]
 
-ghost use Rattle.std.specs.Prelude.{◌≡◌, ◌<◌, ◌≤◌, ◌+◌, ◌*◌, ℕ, true, List, MatchOption, map, length, slice_get};
-ghost use Rattle.std.specs.List.{AllByRecursion};
-ghost use Rattle.prefixes.specs.declared.route.Route.{Route};
-ghost use Rattle.rule_match.specs.declared.rule.Rule.{Rule};
+ghost use Rattle.std.specs.Prelude.{◌≡◌, ◌<◌, MatchOption, map, length, slice_get};
 ghost use Rattle.kernel_model.specs.Journal.{entry};
-ghost use Rattle.kernel_model.specs.State.{is_present};
-ghost use Rattle.kernel_model.specs.Switch.{IsSwitch, additions, deletions, requests_of};
-ghost use Rattle.kernel_model.specs.View.{KernelView, Room, state_of};
+ghost use Rattle.kernel_model.specs.View.{KernelView};
 ghost use Rattle.kernel_model.specs.declared.request.EntryKind.TheVariants.{Added, Deleted};
-ghost use Rattle.plan_exec.specs.MayCarry.{MayCarry, Distinct};
+ghost use Rattle.plan_exec.specs.MayCarry.{MayCarry};
 ghost use Rattle.plan_exec.specs.InTurn.{standing, after, MayAddInTurn, MayDeleteInTurn, RefusedAt, BrokenAt, ordered};
 ghost use Rattle.plan_exec.specs.Carries.{Carries, IsCaused, IsAsBefore};
 
@@ -95,13 +90,3 @@ fn delete_all<K: Kernel>(requests: &[Request], backward: bool, kernel: &mut K) -
     }
     None
 }
-
-/// A kernel that is to be brought from one list of rules to another may be asked to, where there is room and the routes
-/// that go are there. This is a law: its contract is the statement, and its body is empty.
-pub fn switch_may_be_carried()
-    ensures { (k : KernelView) (room : Room) (old new : List Rule) (gone : List (ℕ × Route))
-        → IsSwitch (state_of k) old new gone
-        → Distinct (requests_of gone) → AllByRecursion (λ q. is_present (state_of k) q ≡ true) (requests_of gone)
-        → 2 * length (additions old new) + length (deletions old new gone) ≤ room.spare
-        → MayCarry (record { adds = additions old new; deletes = deletions old new gone }) k room }
-{}

@@ -1,4 +1,5 @@
 use Rattle.std.proofs.Common.{Ok, Err, ◌∙◌, ap, sym}
+use Rattle.std.proofs.lemmas.Bool.{false≢true}
 use Rattle.netd_session.proofs.Ends.{read_failed, input_too_long, finished_at_end, ended_at_line, finished_behind, goes_on, with_answer}
 use Rattle.netd_session.proofs.Starting.{at_first}
 use Rattle.netd_session.proofs.Taking.{with_text}
@@ -6,8 +7,9 @@ use Rattle.netd_session.proofs.running.answer_lines.Goals as goal
 
 pub loop-number-init : goal.loop-number-init
 loop-number-init g c = record {
-  come = at_first _ _ _ _ _ c.new-input.ensures.given c.new-input.ensures.held c.requires.no_turn c.requires.runs c.requires.kept;
+  come = at_first _ _ _ _ _ c.new-input.ensures.given c.new-input.ensures.held c.requires.no_turn c.requires.runs c.requires.kept c.requires.sends;
   finished = c.new-input.ensures.finished ∙ sym c.requires.not_ended;
+  none_left = λ ended. absurd (false≢true (sym c.requires.not_ended ∙ ended));
 }
 
 pub returns-in-Err-Read : goal.returns-in-Err-Read
@@ -32,6 +34,7 @@ returns-then-is_at_end g c before started =
 pub loop-number-preserved : goal.loop-number-preserved
 loop-number-preserved g c = record {
   come = goes_on _ _ _ _ _ _ _ _ _ _ c.loop-number.invariant.come c.next_line.new.self _ (with_answer (ap Ok c.in-Ok-Line.field-0-is) c.in-Ok-Line.ensures) _ _
-      (with_text c.line.ensures c.in_default.ensures.takes) c.take_line.ensures.kept (λ ended none. c.if-is_at_end.ensures.no (c.next_line.ensures.finished ∙ ended) none);
+      (with_text c.line.ensures c.in_default.ensures.takes) c.take_line.ensures.kept c.take_line.ensures.sends (λ ended none. c.if-is_at_end.ensures.no (c.next_line.ensures.finished ∙ ended) none);
   finished = c.next_line.ensures.finished;
+  none_left = c.next_line.ensures.none_left;
 }

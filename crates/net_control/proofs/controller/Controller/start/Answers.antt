@@ -1,16 +1,32 @@
-use Rattle.std.proofs.Common.{sym, subst, None}
-use Rattle.policy_state.specs.View.{StateView}
-use Rattle.net_control.specs.View.{IsKept}
-use Rattle.net_control.proofs.Carrying.{started_halted, start_kept}
+use Rattle.std.proofs.Common.{◌≡◌, sym, subst, ap}
+use Rattle.kernel_model.specs.Journal.{replay}
+use Rattle.kernel_model.specs.State.{KernelState, start as kernel_start}
+use Rattle.kernel_model.specs.Switch.{walk_along}
+use Rattle.kernel_model.specs.View.{state_of}
+use Rattle.kernel_model.specs.Walk.{walk}
+use Rattle.net_control.proofs.Causing.{has_start_cause}
+use Rattle.net_control.proofs.Policed.{begun, by_policy, started_sends}
+use Rattle.policy_meaning.specs.Policy.{policy}
+use Rattle.policy_state.proofs.Goodness.{good-start}
+use Rattle.policy_state.specs.View.{start}
+use Rattle.rule_compile.specs.Asked.{started}
+use Rattle.rule_law.specs.Plans.{GoesOverAndBack}
+use Rattle.std.specs.Prelude.{length}
 use Rattle.net_control.proofs.controller.Controller.start.Goals as goal
 
-pub returns-in-Done-clause-kept : goal.returns-in-Done-clause-kept
-returns-in-Done-clause-kept g c =
-    subst (λ (s : StateView). IsKept (record { state = s; halted = None }) (g.K.Kernel.seen c.carry.new.kernel)) (sym c.in-Ok.ensures)
-    (start_kept c.in-Ok-start_plan.plan (g.K.Kernel.seen c.args.kernel.now) (g.K.Kernel.seen c.reserve.new.self) (g.K.Kernel.seen c.carry.new.kernel)
-    c.requires c.in-Ok-start_plan.ensures c.reserve.ensures.seen c.in-Done.ensures.carries)
+pub returns-clause-sends : goal.returns-clause-sends
+returns-clause-sends g c = started_sends c.ask_start.result (g.K.Kernel.seen c.ask_start.new.kernel) (λ s k packet. c.table_means_policy.ensures s k packet) c.ask_start.ensures.kept
 
-pub returns-in-Halted-clause-answer : goal.returns-in-Halted-clause-answer
-returns-in-Halted-clause-answer g c =
-    started_halted c.in-Ok-start_plan.plan (g.K.Kernel.seen c.args.kernel.now) (g.K.Kernel.seen c.reserve.new.self) (g.K.Kernel.seen c.carry.new.kernel) c.in-Halted.request
-    c.in-Ok-start_plan.ensures c.reserve.ensures.seen c.in-Halted.ensures.carries
+pub returns-clause-caused : goal.returns-clause-caused
+returns-clause-caused g c = has_start_cause c.ask_start.result (g.K.Kernel.seen c.args.kernel.now) (g.K.Kernel.seen c.ask_start.new.kernel) c.ask_start.ensures.answer
+
+pub returns-clause-moments : goal.returns-clause-moments
+returns-clause-moments g c =
+    let before = g.K.Kernel.seen c.args.kernel.now in
+    let first : state_of before ≡ kernel_start = ap replay c.requires in
+    begun c.ask_start.result before (g.K.Kernel.seen c.ask_start.new.kernel)
+    (λ packet. subst (λ (k : KernelState). walk k packet ≡ policy start packet) (sym first) (c.own_rule_means_start.ensures packet))
+    (λ entries segment packet. subst (λ (k : KernelState). GoesOverAndBack (length entries) (walk_along k packet entries) (policy start packet) (policy start packet)) (sym first)
+    (by_policy (c.own_rule_means_start.ensures packet) (c.table_means_policy.ensures start started packet good-start c.start_law.ensures.stands)
+    (c.start_law.ensures.segment packet entries segment)))
+    c.ask_start.ensures.answer

@@ -1,28 +1,33 @@
 -- Where packets go while a command is carried out, and during the start.
-use Rattle.std.proofs.Common.{◌≡◌, ◌∙◌, ℕ, ◌≤◌, List, [], length, Option, None, Some, Result, Ok, Err, inl, inr, refl, sym, ap, subst, arith}
-use Rattle.std.proofs.lemmas.List.{append-nil}
+use Rattle.std.proofs.Common.{◌≡◌, ◌≢◌, ◌∙◌, ◌⊎◌, ℕ, ◌≤◌, List, [], length, Option, None, Some, Result, Ok, Err, inl, inr, refl, sym, ap, subst, arith}
+use Rattle.std.proofs.lemmas.List.{append-nil, append_cancel_left}
+use Rattle.std.proofs.lemmas.Bool.{cases_lt}
 use Rattle.kernel_model.specs.Segment.{IsSegment}
+use Rattle.kernel_model.specs.Stands.{Stands}
 use Rattle.kernel_model.specs.State.{KernelState}
 use Rattle.kernel_model.specs.Switch.{walk_along}
-use Rattle.kernel_model.specs.View.{KernelView, state_of}
+use Rattle.kernel_model.specs.View.{KernelView, grown, state_of}
 use Rattle.kernel_model.specs.Walk.{walk}
 use Rattle.kernel_model.specs.declared.request.Entry.{Entry}
 use Rattle.net_control.specs.Applied.{IsAnswered, IsTaken, adds_of, deletes_of, or_else}
 use Rattle.net_control.specs.Started.{IsStarted, start_adds}
-use Rattle.net_control.specs.View.{ControllerView}
+use Rattle.net_control.specs.View.{ControllerView, IsKept}
 use Rattle.net_control.specs.declared.controller.Answer.{Answer}
 use Rattle.net_control.specs.declared.controller.Answer.TheVariants as answer
 use Rattle.net_control.specs.declared.controller.StartFault.{StartFault}
 use Rattle.net_control.specs.declared.controller.StartFault.TheVariants as fault
 use Rattle.net_names.specs.declared.code.Code.{Code}
-use Rattle.netd_session.specs.Moments.{KeepsPolicy}
-use Rattle.policy_meaning.specs.Policy.{policy}
+use Rattle.net_control.specs.Moments.{KeepsPolicy, KeepsLockdown, SendsByPolicy}
+use Rattle.policy_meaning.specs.Policy.{IsBarred, policy}
+use Rattle.policy_meaning.specs.Promise.{StaysIn}
 use Rattle.policy_state.specs.Step.{changed, refusal}
-use Rattle.policy_state.specs.View.{StateView, start}
+use Rattle.policy_state.specs.Table.{rule_table, route_list}
+use Rattle.policy_state.specs.View.{StateView, IsGood, start}
 use Rattle.policy_state.specs.declared.command.Command.{Command}
 use Rattle.rule_law.specs.Plans.{GoesOverAndBack}
 use Rattle.rule_match.specs.declared.packet.Packet.{Packet}
 use Rattle.rule_match.specs.declared.verdict.Verdict.{Verdict}
+use Rattle.std.specs.Prelude.{IfOk}
 
 -- the same moments, by the verdicts' other names
 pub by_policy : {last : ℕ} {at : ℕ → Verdict} {old new said_old said_new : Verdict} → old ≡ said_old → new ≡ said_new
@@ -85,3 +90,45 @@ begun (Ok c) before after means goes is = record { entries = _; grew = is.0; mom
 begun (Err (fault.Refused q)) before after means goes is = record { entries = is.1; grew = is.3; moments = goes is.1 (inr (inl (is.0, is.2))) }
 begun (Err (fault.Halted q)) before after means goes is = record { entries = is.0; grew = is.2; moments = goes is.0 (inr (inr is.1)) }
 begun (Err (fault.Memory e)) before after means goes is = stays before after start start means is
+
+-- each moment has the one value or the other
+at_each : {last : ℕ} {at : ℕ → Verdict} {old new : Verdict} → GoesOverAndBack last at old new → (i : ℕ) → i ≤ last → (at i ≡ old) ⊎ (at i ≡ new)
+at_each {last} {at} {old} {new} goes i within = elim (cases_lt i goes.over) as (λ _. (at i ≡ old) ⊎ (at i ≡ new)) [
+  | inl front ↦ inl (goes.before i within front)
+  | inr over ↦ elim (cases_lt i goes.back) as (λ _. (at i ≡ old) ⊎ (at i ≡ new)) [
+    | inl front ↦ inr (goes.between i within over front)
+    | inr behind ↦ inl (goes.behind i within behind)
+  ]
+]
+
+-- the journal grew by these entries alone
+same_entries : (before after : KernelView) (xs ys : List Entry) → after ≡ grown before xs → after ≡ grown before ys → xs ≡ ys
+same_entries before after xs ys is same = append_cancel_left before.journal xs ys (ap (λ (k : KernelView). k.journal) (sym is ∙ same))
+
+-- what the policy keeps in at every moment stays in
+pub locked : (before after : KernelView) (old new : StateView)
+    → ((s : StateView) (packet : Packet) → IsBarred s packet → packet.uid.number ≢ 0 → StaysIn (policy s packet))
+    → KeepsPolicy before after old new → KeepsLockdown before after old new
+locked before after old new bars keeps entries grew packet was is user i within =
+    stays_in (at_each (keeps.moments packet) i (subst (λ (es : List Entry). i ≤ length es) (sym same) within))
+  where
+    same : keeps.entries ≡ entries
+    same = same_entries before after keeps.entries entries keeps.grew grew
+
+    stays_in : (walk_along (state_of before) packet keeps.entries i ≡ policy old packet) ⊎ (walk_along (state_of before) packet keeps.entries i ≡ policy new packet)
+        → StaysIn (walk_along (state_of before) packet entries i)
+    stays_in (inl e) = subst (λ (es : List Entry). StaysIn (walk_along (state_of before) packet es i)) same (subst StaysIn (sym e) (bars old packet was user))
+    stays_in (inr e) = subst (λ (es : List Entry). StaysIn (walk_along (state_of before) packet es i)) same (subst StaysIn (sym e) (bars new packet is user))
+
+-- that the table means the policy
+abbrev pub TableMeansPolicy : Type 0
+TableMeansPolicy = (s : StateView) (k : KernelState) (packet : Packet) → IsGood s → Stands k (rule_table s) (route_list s) → walk k packet ≡ policy s packet
+
+-- where the kernel stands for the state, it sends every packet where the policy does
+pub sends : (controller : ControllerView) (kernel : KernelView) → TableMeansPolicy → IsKept controller kernel → SendsByPolicy controller kernel
+sends controller kernel means kept running packet = means controller.state (state_of kernel) packet kept.good (kept.stands running)
+
+pub started_sends : (r : Result ControllerView StartFault) (kernel : KernelView) → TableMeansPolicy → IfOk r (λ controller. IsKept controller kernel)
+    → IfOk r (λ controller. SendsByPolicy controller kernel)
+started_sends (Ok controller) kernel means kept = sends controller kernel means kept
+started_sends (Err fault) kernel means kept = tt

@@ -1,0 +1,34 @@
+use Rattle.kernel_model.specs.View.{state_of}
+use Rattle.net_control.specs.Applied.{IsTaken}
+use Rattle.policy_state.proofs.Goodness.{good-changed}
+use Rattle.policy_state.specs.Step.{changed}
+use Rattle.rule_compile.specs.Asked.{MayStep, carried}
+use Rattle.net_control.proofs.Causing.{has_cause}
+use Rattle.net_control.proofs.Policed.{accepted, answered, by_policy, locked, sends}
+use Rattle.net_control.proofs.controller.Controller.apply.Goals as goal
+
+pub returns-clause-sends : goal.returns-clause-sends
+returns-clause-sends g c = sends c.answer.new.self (g.K.Kernel.seen c.answer.new.kernel) (λ s k packet. c.table_means_policy.ensures s k packet) c.answer.ensures.kept
+
+pub returns-clause-caused : goal.returns-clause-caused
+returns-clause-caused g c = has_cause c.answer.result c.args.command.now c.args.self.now c.answer.new.self (g.K.Kernel.seen c.args.kernel.now) (g.K.Kernel.seen c.answer.new.kernel) c.answer.ensures.answer
+
+pub returns-clause-moments : goal.returns-clause-moments
+returns-clause-moments g c running =
+    let before = g.K.Kernel.seen c.args.kernel.now in
+    let old = c.args.self.now in
+    let command = c.args.command.now in
+    let may : IsTaken old before command → MayStep (state_of before) old.state command =
+    λ taken. record { good = c.requires.good; fits = c.fits_types.ensures; accepted = accepted old before command taken; stands = c.requires.stands running } in
+    answered c.answer.result command old c.answer.new.self before (g.K.Kernel.seen c.answer.new.kernel)
+    (λ packet. c.table_means_policy.ensures old.state (state_of before) packet c.requires.good (c.requires.stands running))
+    (λ taken entries segment packet. by_policy (c.table_means_policy.ensures old.state (state_of before) packet c.requires.good (c.requires.stands running))
+    (c.table_means_policy.ensures (changed old.state command) (carried (state_of before) old.state command) packet
+    (good-changed old.state command c.requires.good c.fits_types.ensures (accepted old before command taken)) (c.plan_ends.ensures.done (state_of before) old.state command (may taken)))
+    (c.plan_law.ensures.segment (state_of before) old.state command packet entries (may taken) segment))
+    c.answer.ensures.answer
+
+pub returns-clause-locked : goal.returns-clause-locked
+returns-clause-locked g c running =
+    locked (g.K.Kernel.seen c.args.kernel.now) (g.K.Kernel.seen c.answer.new.kernel) c.args.self.now.state (changed c.args.self.now.state c.args.command.now)
+    (λ s packet. c.barred_stays_in.ensures s packet) (returns-clause-moments g c running)

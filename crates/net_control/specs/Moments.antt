@@ -1,0 +1,31 @@
+-- Where packets go, at every moment between two requests and behind them.
+use Rattle.std.specs.Prelude.{◌≡◌, ◌≢◌, ℕ, ◌≤◌, List, length, None}
+use Rattle.kernel_model.specs.Switch.{walk_along}
+use Rattle.kernel_model.specs.View.{KernelView, grown, state_of}
+use Rattle.kernel_model.specs.Walk.{walk}
+use Rattle.kernel_model.specs.declared.request.Entry.{Entry}
+use Rattle.net_control.specs.View.{ControllerView}
+use Rattle.policy_meaning.specs.Policy.{IsBarred, policy}
+use Rattle.policy_meaning.specs.Promise.{StaysIn}
+use Rattle.policy_state.specs.View.{StateView}
+use Rattle.rule_law.specs.Plans.{GoesOverAndBack}
+use Rattle.rule_match.specs.declared.packet.Packet.{Packet}
+
+-- unless the controller has halted, the kernel's rules send every packet where the policy of its state does
+abbrev pub SendsByPolicy : ControllerView → KernelView → Type 0
+SendsByPolicy controller kernel = controller.halted ≡ None → (packet : Packet) → walk (state_of kernel) packet ≡ policy controller.state packet
+
+-- Between any two of the requests that were asked, each packet goes where the old state's policy sends it, or where the
+-- new state's does: over once, and back where the requests were undone.
+pub record KeepsPolicy (before after : KernelView) (old new : StateView) : Type 0 where
+  pub entries : List Entry
+  pub grew : after ≡ grown before entries
+  pub moments : (packet : Packet) → GoesOverAndBack (length entries) (walk_along (state_of before) packet entries) (policy old packet) (policy new packet)
+
+-- Lockdown at every moment: between any two of the requests that were asked, undoing and halts included, what a user
+-- other than root sends unprotected leaves by no link, if that user is locked down in both states.
+abbrev pub KeepsLockdown : (before after : KernelView) (old new : StateView) → Type 0
+KeepsLockdown before after old new =
+    (entries : List Entry) → after ≡ grown before entries
+    → (packet : Packet) → IsBarred old packet → IsBarred new packet → packet.uid.number ≢ 0
+    → (i : ℕ) → i ≤ length entries → StaysIn (walk_along (state_of before) packet entries i)

@@ -1,0 +1,5 @@
+use Rattle.netd_top.proofs.Causing.{run_causes}
+use Rattle.netd_top.proofs.top.run.Goals as goal
+
+pub returns-clause-causes : goal.returns-clause-causes
+returns-clause-causes g c = run_causes c.one_form.ensures _ _ _ _ c.obey.ensures
