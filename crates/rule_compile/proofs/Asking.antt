@@ -1,9 +1,12 @@
 -- What is asked of a kernel that stands for a state can be asked.
-use Rattle.std.proofs.Common.{◌≡◌, ◌≤◌, ◌∷◌, [], ◌++◌, ◌&&◌, List, Bool, true, false, not, refl, sym, ◌∙◌, ap, subst, inl, inr, reverse, arith}
+use Rattle.std.proofs.Common.{◌≡◌, ◌≤◌, ◌∷◌, [], ◌++◌, ◌&&◌, List, Bool, true, false, not, refl, sym, ◌∙◌, ap, subst, inl, inr, reverse, arith, ℕ, ap₂}
+use Rattle.std.specs.Prelude.{◌⊎◌}
 use Rattle.std.specs.List.{AllByRecursion}
 use Rattle.std.proofs.lemmas.Bool.{cases_Bool, false≢true, false_from_ne_true}
 use Rattle.std.proofs.lemmas.List.{reverse-append}
+use Rattle.fib_table.specs.Table.{has_key, has_route}
 use Rattle.prefixes.specs.Addr.{same_family}
+use Rattle.prefixes.specs.declared.route.Route.{Route}
 use Rattle.prefixes.specs.declared.addr.Family.{Family}
 use Rattle.prefixes.specs.declared.addr.Family.TheVariants as family
 use Rattle.rule_law.specs.Rules.{has, HasEachOnce, NoneBelow}
@@ -17,7 +20,7 @@ use Rattle.rule_match.proofs.Sames.{same_rule-true, same_rule-refl}
 use Rattle.kernel_model.specs.Kind.{rule_kind}
 use Rattle.kernel_model.specs.Same.{same_request}
 use Rattle.kernel_model.specs.State.{KernelState, rules_of, own_rule, is_absent, is_present, is_route}
-use Rattle.kernel_model.specs.Switch.{twins}
+use Rattle.kernel_model.specs.Switch.{twins, additions, deletions}
 use Rattle.kernel_model.specs.declared.request.Request.{Request}
 use Rattle.kernel_model.specs.declared.request.Request.TheVariants as req
 use Rattle.kernel_model.proofs.Alls.{all-append, all-reverse}
@@ -28,6 +31,7 @@ use Rattle.policy_state.specs.declared.command.Command.{Command}
 use Rattle.policy_state.proofs.Goodness.{good-changed}
 use Rattle.rule_compile.specs.Asked.{asked_adds, asked_deletes, MayStep}
 use Rattle.rule_compile.specs.Distinct.{Distinct}
+use Rattle.rule_compile.proofs.Asks.{Asks, Rules, Comes, Goes}
 use Rattle.rule_compile.proofs.Tables.{table-behind_own, table-once}
 
 -- what holds of the rules of a list in either family holds of what asks for them
@@ -72,16 +76,16 @@ module _ (k : KernelState) (s : StateView) (command : Command) (may : MayStep k 
   kernel-has : (f : Family) (x : Rule) → same_rule x own_rule ≡ false → has rule_kind (rules_of k f) x ≡ has rule_kind old x
   kernel-has f x other = has-classes rule_kind (rules_of k f) (own_rule ∷ old) (may.stands.in_family f).classes x ∙ rw other refl
 
-  pub adds-absent : AllByRecursion (λ q. is_absent k q ≡ true) (asked_adds s (changed s command))
-  adds-absent = all-twins (λ q. is_absent k q ≡ true) (beyond rule_kind old new) each
+  rules-absent : AllByRecursion (λ q. is_absent k q ≡ true) (additions old new)
+  rules-absent = all-twins (λ q. is_absent k q ≡ true) (beyond rule_kind old new) each
     where
       each : (f : Family) (x : Rule) → has rule_kind (beyond rule_kind old new) x ≡ true → is_absent k (req.Rule f x) ≡ true
       each f x h =
           let came : IsBeyond old new x = is_beyond old new x h in
           ap not (kernel-has f x (not_own new x (table-behind_own (changed s command)) came.there) ∙ came.lacking)
 
-  pub deletes-present : AllByRecursion (λ q. is_present k q ≡ true) (asked_deletes s (changed s command))
-  deletes-present =
+  rules-present : AllByRecursion (λ q. is_present k q ≡ true) (deletions old new [])
+  rules-present =
       all-append (λ q. is_present k q ≡ true) (reverse (twins (beyond rule_kind new old))) []
       (all-reverse (λ q. is_present k q ≡ true) (twins (beyond rule_kind new old)) (all-twins (λ q. is_present k q ≡ true) (beyond rule_kind new old) each)) tt
     where
@@ -89,6 +93,29 @@ module _ (k : KernelState) (s : StateView) (command : Command) (may : MayStep k 
       each f x h =
           let went : IsBeyond new old x = is_beyond new old x h in
           kernel-has f x (not_own old x (table-behind_own s) went.there) ∙ went.there
+
+  abbrev Absent : List Request → Type 0
+  Absent qs = AllByRecursion (λ q. is_absent k q ≡ true) qs
+
+  abbrev Present : List Request → Type 0
+  Present qs = AllByRecursion (λ q. is_present k q ≡ true) qs
+
+  pub adds-absent : Asks s command → Absent (asked_adds s command)
+  adds-absent (Rules it) = subst Absent (sym it.adds) rules-absent
+  adds-absent (Comes it) = subst Absent (sym it.adds) (ap (λ rs. not (has_key rs it.route)) (may.stands.in_table it.table it.not_own) ∙ ap not it.absent, tt)
+  adds-absent (Goes it) = subst Absent (sym it.adds) tt
+
+  pub deletes-present : Asks s command → Present (asked_deletes s command)
+  deletes-present (Rules it) = subst Present (sym it.deletes) rules-present
+  deletes-present (Comes it) = subst Present (sym it.deletes) tt
+  deletes-present (Goes it) = subst Present (sym it.deletes) (ap (λ rs. has_route rs it.route) (may.stands.in_table it.table it.not_own) ∙ it.there, tt)
+
+-- rules alone, or one route
+pub one_kind : (s : StateView) (command : Command) → Asks s command
+    → AllByRecursion (λ q. is_route q ≡ false) (asked_adds s command) ⊎ ((n : ℕ) × (route : Route) × (asked_adds s command ≡ req.Route n route ∷ []))
+one_kind s command (Rules it) = inl (subst (AllByRecursion (λ q. is_route q ≡ false)) (sym it.adds) (twins-rules (beyond rule_kind (rule_table s) (rule_table (changed s command)))))
+one_kind s command (Comes it) = inr (it.table, it.route, it.adds)
+one_kind s command (Goes it) = inl (subst (AllByRecursion (λ q. is_route q ≡ false)) (sym it.adds) tt)
 
 -- requests that are apart
 
@@ -134,13 +161,14 @@ distinct-reversed (r ∷ rs) once =
     subst Distinct (sym (reverse-append (req.Rule family.V4 r ∷ req.Rule family.V6 r ∷ []) (twins rs)))
     (distinct-append (reverse (twins rs)) pair (distinct-reversed rs once.1) ((refl, tt), (tt, tt)) apart)
 
-pub asked-distinct : (k : KernelState) (s : StateView) (command : Command) → MayStep k s command → Distinct (asked_adds s (changed s command) ++ asked_deletes s (changed s command))
-asked-distinct k s command may =
+rules-distinct : (k : KernelState) (s : StateView) (command : Command) → MayStep k s command
+    → Distinct (additions (rule_table s) (rule_table (changed s command)) ++ deletions (rule_table s) (rule_table (changed s command)) [])
+rules-distinct k s command may =
     let old : List Rule = rule_table s in
     let new : List Rule = rule_table (changed s command) in
     let came : List Rule = beyond rule_kind old new in
     let went : List Rule = beyond rule_kind new old in
-    let new_once : HasEachOnce rule_kind new = table-once (changed s command) (good-changed s command may.good may.accepted) in
+    let new_once : HasEachOnce rule_kind new = table-once (changed s command) (good-changed s command may.good may.fits may.accepted) in
     let deletes : Distinct (reverse (twins went) ++ []) =
     distinct-append (reverse (twins went)) [] (distinct-reversed went (HasEachOnce-filter rule_kind (λ x. not (has rule_kind new x)) old (table-once s may.good))) tt
     (all-reverse (λ q. IsApart q []) (twins went) (all-twins (λ q. IsApart q []) went (λ f x there. tt))) in
@@ -150,3 +178,8 @@ asked-distinct k s command may =
     (all-reverse (λ p. same_request (req.Rule f x) p ≡ false) (twins went)
     (all-twins (λ p. same_request (req.Rule f x) p ≡ false) went (λ g y in_went.
     apart_rules f g x y (lacked old x y (is_beyond old new x in_came).lacking (is_beyond new old y in_went).there)))) tt))
+
+pub asked-distinct : (k : KernelState) (s : StateView) (command : Command) → MayStep k s command → Asks s command → Distinct (asked_adds s command ++ asked_deletes s command)
+asked-distinct k s command may (Rules it) = subst Distinct (ap₂ (λ (adds deletes : List Request). adds ++ deletes) (sym it.adds) (sym it.deletes)) (rules-distinct k s command may)
+asked-distinct k s command may (Comes it) = subst Distinct (ap₂ (λ (adds deletes : List Request). adds ++ deletes) (sym it.adds) (sym it.deletes)) (tt, tt)
+asked-distinct k s command may (Goes it) = subst Distinct (ap₂ (λ (adds deletes : List Request). adds ++ deletes) (sym it.adds) (sym it.deletes)) (tt, tt)

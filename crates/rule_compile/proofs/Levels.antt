@@ -1,8 +1,7 @@
 -- What a command makes of the rules of each level.
-use Rattle.std.proofs.Common.{◌≡◌, ◌<◌, ◌≤◌, ◌%◌, ◌∷◌, [], ◌++◌, ℕ, suc, List, Bool, true, false, None, Some, refl, sym, ◌∙◌, ap, subst, inl, inr, arith, map, slice_get}
-use Rattle.std.specs.Prelude.{◌⊎◌, flat_map}
+use Rattle.std.proofs.Common.{◌≡◌, ◌<◌, ◌≤◌, ◌%◌, ◌∷◌, [], ◌++◌, suc, List, true, false, None, Some, refl, sym, ◌∙◌, ap, subst, inl, inr, arith, map}
 use Rattle.std.specs.List.{AllByRecursion, filter_map}
-use Rattle.std.proofs.lemmas.Bool.{cases_Bool, false≢true, false_from_ne_true, and_parts, or_parts}
+use Rattle.std.proofs.lemmas.Bool.{cases_Bool, false≢true, false_from_ne_true, or_parts}
 use Rattle.std.proofs.lemmas.Bool.Decides.{nat_tests}
 use Rattle.uid_ranges.specs.Range.{holds}
 use Rattle.uid_ranges.specs.Ranges.{AreDisjoint, meets_any, self_meets}
@@ -15,14 +14,15 @@ use Rattle.rule_law.proofs.Membership.{has_append}
 use Rattle.rule_law.proofs.Orders.{HasEachOnce-append}
 use Rattle.rule_law.proofs.Turning.{TurnsInto-same, TurnsInto-append}
 use Rattle.rule_law.proofs.Unlike.{apart-once, TurnsInto-unlike}
+use Rattle.rule_match.specs.Rule.{same_rule}
 use Rattle.rule_match.specs.declared.rule.Action.TheVariants as action
 use Rattle.rule_match.specs.declared.rule.Rule.{Rule}
-use Rattle.rule_match.proofs.Sames.{same_selectors-true}
+use Rattle.rule_match.proofs.Sames.{same_rule-true}
 use Rattle.kernel_model.specs.Kind.{rule_kind}
 use Rattle.kernel_model.specs.KindLaws.{alike, alike_self}
 use Rattle.policy_state.specs.View.{StateView, IsGood}
 use Rattle.policy_state.specs.Step.{FitsTypes, refusal, changed}
-use Rattle.policy_state.specs.Table.{Level, RootInterface, Lockdown, Explicit, BoundInterface, LocalNetwork, Implicit, Last, rules_at, lockdown_rule, explicit_local_rule, PhysicalLink, physical_links_of, physical_links, link_table, local_table}
+use Rattle.policy_state.specs.Table.{Level, RootInterface, Lockdown, Explicit, BoundInterface, LocalNetwork, Implicit, Last, rules_at, lockdown_rule, explicit_local_rule, PhysicalLink, physical_links, link_table, local_table}
 use Rattle.policy_state.specs.declared.command.Command.{Command}
 use Rattle.policy_state.proofs.Goodness.{good-changed}
 use Rattle.policy_state.proofs.Levels.{InRow, in_row, is_only, one_place, id-from, id-below}
@@ -30,7 +30,7 @@ use Rattle.policy_state.proofs.PhysicalLinks.{IsLinkIn, link_in, links-are, netw
 use Rattle.rule_compile.specs.Rows.{rule_for, row_of}
 use Rattle.rule_compile.specs.declared.link_rules.Row.{Row}
 use Rattle.rule_compile.specs.declared.link_rules.Row.TheVariants as row
-use Rattle.rule_compile.proofs.LinkRows.{ForLink, for_link, leads, rows-once, unlike_by_link, root-binds, bound-binds, GoesById, explicit-by_id, implicit-by_id, filter_map-flat, root-row, explicit-row, bound-row, implicit-row}
+use Rattle.rule_compile.proofs.LinkRows.{alike-selectors, ForLink, for_link, leads, rows-once, unlike_by_link, root-binds, bound-binds, GoesById, explicit-by_id, implicit-by_id, filter_map-flat, root-row, explicit-row, bound-row, implicit-row}
 use Rattle.rule_compile.proofs.Turns.{turn, row-turns}
 
 -- the rules of a level for the interfaces of a state
@@ -57,7 +57,7 @@ lockdown-unlike [] disjoint = tt
 lockdown-unlike (range ∷ ranges) disjoint = (
   λ y there. false_from_ne_true (alike (lockdown_rule range) y) (λ like.
       let other : InRow lockdown_rule ranges y = in_row lockdown_rule ranges y there in
-      let uids : Some range ≡ Some other.item = (same_selectors-true (lockdown_rule range) y (and_parts _ _ like).1).uids ∙ ap (λ (r : Rule). r.uids) other.rule in
+      let uids : Some range ≡ Some other.item = (alike-selectors (lockdown_rule range) y like).uids ∙ ap (λ (r : Rule). r.uids) other.rule in
       let same : range ≡ other.item = cc in
       let in_other : holds other.item range.first.number ≡ true = subst (λ r. holds r range.first.number ≡ true) same (holds_first range) in
       let places : 0 ≡ suc other.place = one_place (range ∷ ranges) 0 (suc other.place) range.first.number range other.item disjoint refl other.at (holds_first range) in_other in
@@ -126,7 +126,7 @@ explicit-turns s c good good' =
     subst (λ rules. TurnsInto rule_kind (rules ++ local) (rules_at (changed s c) Explicit)) (explicit-row s.networks)
     (subst (λ rules. TurnsInto rule_kind (old ++ local) (rules ++ local)) (explicit-row (changed s c).networks)
     (TurnsInto-append rule_kind old new local local (λ x y in_x in_y. false_from_ne_true (alike x y) (λ like.
-    let mark : x.mark ≡ y.mark = (same_selectors-true x y (and_parts _ _ like).1).mark in
+    let mark : x.mark ≡ y.mark = (alike-selectors x y like).mark in
     let local_mark : y.mark ≡ 0x10063 = ap (λ (r : Rule). r.mark) (is_local y in_y) in
     let above : 100 ≤ x.mark % 65536 = elim (cases_Bool (has rule_kind old x)) [
       | inl t ↦ from_100 s x good t
@@ -135,10 +135,7 @@ explicit-turns s c good good' =
     omega (arith, above, mark, local_mark))) (by_id-turns row.Explicit explicit-by_id s c good) (TurnsInto-same rule_kind local)))
   where
     is_local : (y : Rule) → has rule_kind (explicit_local_rule ∷ explicit_local_rule ∷ []) y ≡ true → y ≡ explicit_local_rule
-    is_local y h = elim (cases_Bool (has rule_kind (explicit_local_rule ∷ []) y)) [
-      | inl t ↦ is_only explicit_local_rule y t
-      | inr other ↦ absurd (false≢true (sym (has_append rule_kind y (explicit_local_rule ∷ []) (explicit_local_rule ∷ []) ∙ rw other other) ∙ h))
-    ]
+    is_local y h = elim (cases_Bool (same_rule y explicit_local_rule)) [ inl same ↦ same_rule-true y explicit_local_rule same | inr other ↦ absurd (false≢true (rw other at h)) ]
 
 module _ (s : StateView) (c : Command) (good : IsGood s) (fits : FitsTypes c) (accepted : refusal s c ≡ None) where
   good_new : IsGood (changed s c)

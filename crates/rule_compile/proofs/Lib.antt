@@ -3,7 +3,10 @@ pub mod Twins
 pub mod Rows
 pub mod LinkRows
 pub mod Turns
+pub mod RouteTables
 pub mod Levels
 pub mod Tables
+pub mod Asks
 pub mod Asking
+pub mod Along
 pub mod Starting

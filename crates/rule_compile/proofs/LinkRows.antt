@@ -1,11 +1,12 @@
 -- The rules that a level has for the interfaces of physical networks: for which interface each is, and what it shows of it.
-use Rattle.std.proofs.Common.{◌≡◌, ◌<◌, ◌+◌, ◌*◌, ◌%◌, ◌==◌, ◌∷◌, [], ◌++◌, ℕ, suc, length, List, Bool, true, false, not, Some, None, Option, refl, sym, ◌∙◌, ap, ap₂, inl, inr, map, filter, slice_get, arith, ◌-◌, length-append}
+use Rattle.std.proofs.Common.{◌≡◌, ◌<◌, ◌+◌, ◌*◌, ◌%◌, ◌==◌, ◌∷◌, [], ◌++◌, ℕ, suc, length, List, Bool, true, false, not, Some, None, Option, refl, sym, ◌∙◌, ap, inl, inr, map, filter, slice_get, arith, ◌-◌, length-append}
 use Rattle.std.specs.Prelude.{flat_map, sum_by}
 use Rattle.std.specs.List.{list_any, filter_map, cons_option}
 use Rattle.std.specs.Option.{option_map}
 use Rattle.std.proofs.lemmas.Bool.{cases_Bool, false≢true, false_from_ne_true, and_parts}
 use Rattle.std.proofs.lemmas.List.{length-map}
 use Rattle.std.proofs.lemmas.List.Elements.{filter_map-append, filter-append}
+use Rattle.std.proofs.lemmas.List.Sums.{sum_by_from}
 use Rattle.std.proofs.lemmas.Option.{slice_get-map, none-some}
 use Rattle.fwmark.specs.Permission.{bits_of}
 use Rattle.fwmark.specs.declared.permission.Permission.{Permission}
@@ -16,7 +17,7 @@ use Rattle.networks.specs.declared.network.Network.{Network}
 use Rattle.rule_law.specs.Rules.{has, HasEachOnce}
 use Rattle.rule_law.specs.Parts.{AreEachApart, AreEachUnlike}
 use Rattle.rule_law.proofs.Unlike.{apart-once}
-use Rattle.rule_match.specs.Rule.{same_rule}
+use Rattle.rule_match.specs.Rule.{same_rule, same_selectors, AreSelectorsEqual}
 use Rattle.rule_match.specs.declared.rule.Action.TheVariants as action
 use Rattle.rule_match.specs.declared.rule.Rule.{Rule}
 use Rattle.rule_match.proofs.Sames.{same_rule-true, same_rule-refl, same_selectors-true}
@@ -28,6 +29,9 @@ use Rattle.policy_state.proofs.PhysicalLinks.{is_there}
 use Rattle.rule_compile.specs.Rows.{physical_link, rule_for, row_of, rules_each, count_for}
 use Rattle.rule_compile.specs.declared.link_rules.Row.{Row}
 use Rattle.rule_compile.specs.declared.link_rules.Row.TheVariants as row
+
+pub alike-selectors : (x y : Rule) → alike x y ≡ true → AreSelectorsEqual x y
+alike-selectors x y like = same_selectors-true x y (and_parts (x.priority == y.priority) (same_selectors x y) like).1
 
 -- the interface for which a rule of a level is
 pub record ForLink (rule : PhysicalLink → Option Rule) (links : List PhysicalLink) (x : Rule) : Type 0 where
@@ -100,8 +104,7 @@ pub unlike_by_link : (which : Row) → ((l : PhysicalLink) (x : Rule) → rule_f
     → (links : List PhysicalLink) → are_distinct (map (λ (l : PhysicalLink). l.link) links) ≡ true → AreEachUnlike rule_kind (filter_map (rule_for which) links)
 unlike_by_link which binds links distinct =
     rows-apart (rule_for which) alike (λ l m x y is_x is_y like.
-    let same = same_selectors-true x y (and_parts _ _ like).1 in
-    let both : Some l.link ≡ Some m.link = sym (binds l x is_x) ∙ (same.outgoing ∙ binds m y is_y) in
+    let both : Some l.link ≡ Some m.link = sym (binds l x is_x) ∙ ((alike-selectors x y like).outgoing ∙ binds m y is_y) in
     cc) links distinct
 
 pub root-binds : (l : PhysicalLink) (x : Rule) → rule_for row.RootInterface l ≡ Some x → x.outgoing ≡ Some l.link
@@ -201,11 +204,12 @@ count-physical n permission is =
 counts-joined : (ns : List Network) → sum_by count_for ns ≡ 3 * length (flat_map physical_links_of ns) + length (filter is_free (flat_map physical_links_of ns))
 counts-joined [] = refl
 counts-joined (n ∷ ns) =
-    let rest = counts-joined ns in
+    let rest : sum_by count_for ns ≡ 3 * length (flat_map physical_links_of ns) + length (filter is_free (flat_map physical_links_of ns)) = counts-joined ns in
+    let one : sum_by count_for (n ∷ ns) ≡ (0 + count_for n) + sum_by count_for ns = sum_by_from count_for (0 + count_for n) ns in
     let all : length (physical_links_of n ++ flat_map physical_links_of ns) ≡ length (physical_links_of n) + length (flat_map physical_links_of ns) = length-append (physical_links_of n) (flat_map physical_links_of ns) in
     let free : length (filter is_free (physical_links_of n ++ flat_map physical_links_of ns)) ≡ length (filter is_free (physical_links_of n)) + length (filter is_free (flat_map physical_links_of ns)) =
     ap length (filter-append is_free (physical_links_of n) (flat_map physical_links_of ns)) ∙ length-append (filter is_free (physical_links_of n)) (filter is_free (flat_map physical_links_of ns)) in
-    omega (arith, rest, all, free)
+    one ∙ omega (arith, rest, all, free)
 
 -- how many rules there are for a state
 pub count-table : (s : StateView) → length (rule_table s) ≡ length s.lockdown + 3 + sum_by count_for s.networks

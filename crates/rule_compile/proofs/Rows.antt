@@ -1,11 +1,13 @@
--- Rows of rules, one for each of some items, as items come and go.
-use Rattle.std.proofs.Common.{◌≡◌, ◌≤◌, ◌∷◌, [], ◌++◌, ℕ, zero, suc, length, take, slice_get, Some, None, arith, List, Bool, true, refl, sym, ◌∙◌, ap, subst, inl, inr, map, filter}
+-- Lists that have each rule once, and rows of rules that are made item by item.
+use Rattle.std.proofs.Common.{◌≡◌, ◌≤◌, ◌<◌, ◌+◌, ◌∷◌, [], ◌++◌, ℕ, zero, suc, length, take, slice_get, Some, None, arith, List, true, refl, sym, ◌∙◌, ap, subst, inl, inr, map, add-one}
+use Rattle.std.specs.Prelude.{flat_map, sum_by}
 use Rattle.std.proofs.lemmas.Bool.{cases_Bool, false≢true}
-use Rattle.std.proofs.lemmas.List.{map-append}
+use Rattle.std.proofs.lemmas.Grind.{flat_map-append}
+use Rattle.std.proofs.lemmas.List.{map-append, append-nil}
+use Rattle.std.proofs.lemmas.List.Sums.{sum_by_more}
+use Rattle.std.proofs.lemmas.Option.{slice_get_within, get_or_from_slice_get}
 use Rattle.rule_law.specs.Rules.{has, HasEachOnce, AreAbsent}
-use Rattle.rule_law.specs.Parts.{TurnsInto}
 use Rattle.rule_law.proofs.Membership.{has_append}
-use Rattle.rule_law.proofs.Turning.{TurnsInto-more, TurnsInto-part}
 use Rattle.rule_match.specs.Rule.{same_rule}
 use Rattle.rule_match.specs.declared.rule.Rule.{Rule}
 use Rattle.rule_match.proofs.Sames.{same_rule-true}
@@ -34,26 +36,28 @@ slice_get-past [] place h = omega arith
 slice_get-past (n ∷ ns) zero h = cc
 slice_get-past (n ∷ ns) (suc place) h = let rest : length ns ≤ place = slice_get-past ns place h in omega arith
 
+-- one item more of a list that is taken from the front
+
+module _ {N : Type 0} where
+  take-suc : (items : List N) (place : ℕ) (item : N) → slice_get items place ≡ Some item → take (suc place) items ≡ take place items ++ item ∷ []
+  take-suc [] place item h = cc
+  take-suc (n ∷ ns) zero item h = let is : n ≡ item = cc in ap (λ x. x ∷ []) is
+  take-suc (n ∷ ns) (suc place) item h = ap (λ rest. n ∷ rest) (take-suc ns place item h)
+
+  pub take-next : (items : List N) (place : ℕ) (item : N) → slice_get items place ≡ Some item → take (place + 1) items ≡ take place items ++ item ∷ []
+  take-next items place item at = ap (λ n. take n items) (add-one place) ∙ take-suc items place item at
+
 module _ {N : Type 0} (f : N → Rule) where
-  -- one item more
-  pub row-more : (items : List N) (place : ℕ) (item : N) → slice_get items place ≡ Some item → map f (take (suc place) items) ≡ map f (take place items) ++ f item ∷ []
-  row-more [] place item h = cc
-  row-more (n ∷ ns) zero item h = let is : n ≡ item = cc in ap (λ x. f x ∷ []) is
-  row-more (n ∷ ns) (suc place) item h = ap (λ rules. f n ∷ rules) (row-more ns place item h)
+  pub row-more : (items : List N) (place : ℕ) (item : N) → slice_get items place ≡ Some item → map f (take (place + 1) items) ≡ map f (take place items) ++ f item ∷ []
+  row-more items place item h = ap (map f) (take-next items place item h) ∙ map-append f (take place items) (item ∷ [])
 
-  -- items come at the end
-  pub row-comes : (items more : List N) → HasEachOnce rule_kind (map f (items ++ more)) → TurnsInto rule_kind (map f items) (map f (items ++ more))
-  row-comes items more once =
-      let both : map f (items ++ more) ≡ map f items ++ map f more = map-append f items more in
-      subst (λ rules. TurnsInto rule_kind (map f items) rules) (sym both)
-      (TurnsInto-more rule_kind (map f items) (map f more) (once-apart (map f items) (map f more) (subst (λ rules. HasEachOnce rule_kind rules) both once)))
+pub rows-more : {N : Type 0} (f : N → List Rule) (items : List N) (place : ℕ) (item : N) → slice_get items place ≡ Some item
+    → flat_map f (take (place + 1) items) ≡ flat_map f (take place items) ++ f item
+rows-more f items place item h =
+    ap (flat_map f) (take-next items place item h) ∙ (flat_map-append f (take place items) (item ∷ []) ∙ ap (λ rest. flat_map f (take place items) ++ rest) (append-nil (f item)))
 
-  row-part : (stays : Rule → Bool) (kept : N → Bool) → ((n : N) → stays (f n) ≡ kept n) → (items : List N) → filter stays (map f items) ≡ map f (filter kept items)
-  row-part stays kept h [] = refl
-  row-part stays kept h (n ∷ ns) =
-      rw (h n, row-part stays kept h ns) (elim (cases_Bool (kept n)) [ inl t ↦ rw t refl | inr t ↦ rw t refl ])
-
-  -- some items go
-  pub row-goes : (stays : Rule → Bool) (kept : N → Bool) → ((n : N) → stays (f n) ≡ kept n) → (items : List N) → TurnsInto rule_kind (map f items) (map f (filter kept items))
-  row-goes stays kept h items =
-      subst (λ rules. TurnsInto rule_kind (map f items) rules) (row-part stays kept h items) (TurnsInto-part rule_kind stays (map f items))
+pub sum-more : {N : Type 0} (f : N → ℕ) (items : List N) (place : ℕ) (item : N) → slice_get items place ≡ Some item
+    → sum_by f (take (place + 1) items) ≡ sum_by f (take place items) + f item
+sum-more f items place item h =
+    let within : place < length items = slice_get_within items place item h in
+    sum_by_more f items place item within ∙ ap (λ n. sum_by f (take place items) + f n) (get_or_from_slice_get items place item item h)

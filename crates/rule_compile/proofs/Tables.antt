@@ -15,12 +15,12 @@ use Rattle.kernel_model.specs.State.{KernelState, NumberedTable}
 use Rattle.kernel_model.specs.Switch.{IsSwitch}
 use Rattle.kernel_model.specs.Walk.{rule_gives}
 use Rattle.policy_state.specs.View.{StateView, IsGood}
-use Rattle.policy_state.specs.Step.{refusal, changed}
+use Rattle.policy_state.specs.Step.{FitsTypes, refusal, changed}
 use Rattle.policy_state.specs.Table.{Level, levels, priority_of, rules_at, rule_table}
 use Rattle.policy_state.specs.declared.command.Command.{Command}
 use Rattle.policy_state.proofs.Goodness.{good-changed}
 use Rattle.policy_state.proofs.Levels.{level-priority, table-alike}
-use Rattle.rule_compile.specs.Asked.{routes_gone, MayStep}
+use Rattle.rule_compile.specs.Asked.{MayStep}
 use Rattle.rule_compile.proofs.Levels.{level-once, level-turns}
 
 -- what holds of each level holds of each in a list of levels
@@ -33,10 +33,10 @@ shows s [] = tt
 shows s (level ∷ rest) = (level-priority s level, shows s rest)
 
 distinct : HaveDistinctKeys priority_of levels
-distinct = (refl, (refl, (refl, (refl, tt))))
+distinct = (refl, (refl, (refl, (refl, (refl, (refl, (refl, tt)))))))
 
 rising : KeysRise priority_of 1 levels
-rising = (lit≤ tt, (lit≤ tt, (lit≤ tt, (lit≤ tt, tt))))
+rising = (lit≤ tt, (lit≤ tt, (lit≤ tt, (lit≤ tt, (lit≤ tt, (lit≤ tt, (lit≤ tt, tt)))))))
 
 pub table-rises : (s : StateView) → Rises rule_kind (rule_table s)
 table-rises s = (Rises-joined rule_kind priority_of (rules_at s) 1 levels (shows s levels) rising (each_rises rule_kind priority_of (rules_at s) levels (shows s levels))).0
@@ -49,20 +49,20 @@ pub table-once : (s : StateView) → IsGood s → HasEachOnce rule_kind (rule_ta
 table-once s good =
     HasEachOnce-joined rule_kind priority_of rule_kind.priority (rules_at s) levels (shows s levels) distinct (each (λ level. HasEachOnce rule_kind (rules_at s level)) (level-once s good) levels)
 
-table-turns : (s : StateView) (command : Command) → IsGood s → refusal s command ≡ None → TurnsInto rule_kind (rule_table s) (rule_table (changed s command))
-table-turns s command good accepted =
+table-turns : (s : StateView) (command : Command) → IsGood s → FitsTypes command → refusal s command ≡ None → TurnsInto rule_kind (rule_table s) (rule_table (changed s command))
+table-turns s command good fits accepted =
     TurnsInto-joined rule_kind priority_of rule_kind.priority alike_priority (rules_at s) (rules_at (changed s command)) levels
     (shows s levels) (shows (changed s command) levels) distinct
-    (each (λ level. TurnsInto rule_kind (rules_at s level) (rules_at (changed s command) level)) (level-turns s command good accepted) levels)
+    (each (λ level. TurnsInto rule_kind (rules_at s level) (rules_at (changed s command) level)) (level-turns s command good fits accepted) levels)
 
-pub tables-old_and_new : (s : StateView) (command : Command) → IsGood s → refusal s command ≡ None → AreOldAndNew rule_kind (rule_table s) (rule_table (changed s command))
-tables-old_and_new s command good accepted =
-    let order = TurnsInto-conditions rule_kind (rule_table s) (rule_table (changed s command)) (table-turns s command good accepted) in
+pub tables-old_and_new : (s : StateView) (command : Command) → IsGood s → FitsTypes command → refusal s command ≡ None → AreOldAndNew rule_kind (rule_table s) (rule_table (changed s command))
+tables-old_and_new s command good fits accepted =
+    let order = TurnsInto-conditions rule_kind (rule_table s) (rule_table (changed s command)) (table-turns s command good fits accepted) in
     record {
       old_rises = table-rises s;
       new_rises = table-rises (changed s command);
       old_once = table-once s good;
-      new_once = table-once (changed s command) (good-changed s command good accepted);
+      new_once = table-once (changed s command) (good-changed s command good fits accepted);
       same_order = order.0;
       new_behind = order.1;
     }
@@ -77,10 +77,10 @@ table-givers s tables p good = λ x y in_x in_y same gives_x gives_y.
     and_from _ _ (eq-eqb x.priority y.priority same)
     (table-alike s p x y good in_x in_y same (giver-matches tables p x gives_x) (giver-matches tables p y gives_y))
 
-pub is_switch : (k : KernelState) (s : StateView) (command : Command) → MayStep k s command → IsSwitch k (rule_table s) (rule_table (changed s command)) (routes_gone s (changed s command))
+pub is_switch : (k : KernelState) (s : StateView) (command : Command) → MayStep k s command → IsSwitch k (rule_table s) (rule_table (changed s command)) []
 is_switch k s command may = record {
   in_family = may.stands.in_family;
-  old_and_new = tables-old_and_new s command may.good may.accepted;
+  old_and_new = tables-old_and_new s command may.good may.fits may.accepted;
   old_behind = table-behind_own s;
   new_behind = table-behind_own (changed s command);
   unused = tt;

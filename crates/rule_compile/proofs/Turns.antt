@@ -1,5 +1,5 @@
 -- What a command makes of the networks, and so of the rules that go by a network's id.
-use Rattle.std.proofs.Common.{◌≡◌, ◌<◌, ◌≤◌, ◌%◌, ◌==◌, ◌∷◌, [], ◌++◌, ℕ, List, Bool, true, false, not, Some, None, Option, refl, sym, ◌∙◌, ap, ap₂, subst, inl, inr, map, slice_get, arith}
+use Rattle.std.proofs.Common.{◌≡◌, ◌<◌, ◌%◌, ◌==◌, ◌∷◌, [], ◌++◌, ℕ, List, Bool, true, false, not, Some, None, Option, refl, sym, ◌∙◌, ap, ap₂, subst, inl, inr, map, arith}
 use Rattle.std.specs.Prelude.{flat_map, if◌then◌else◌}
 use Rattle.std.specs.List.{list_any, filter_map, AllByRecursion}
 use Rattle.std.proofs.lemmas.Bool.{cases_Bool, false≢true, false_from_ne_true, and_parts, eqb-true, eq-eqb}
@@ -20,9 +20,7 @@ use Rattle.rule_law.specs.Parts.{TurnsInto, EachPart, HaveDistinctKeys, ShowKeys
 use Rattle.rule_law.proofs.Keys.{TurnsInto-joined}
 use Rattle.rule_law.proofs.Turning.{TurnsInto-same, TurnsInto-more, TurnsInto-replaced}
 use Rattle.rule_match.specs.declared.rule.Rule.{Rule}
-use Rattle.rule_match.proofs.Sames.{same_selectors-true}
 use Rattle.kernel_model.specs.Kind.{rule_kind}
-use Rattle.kernel_model.specs.KindLaws.{alike}
 use Rattle.policy_state.specs.Step.{changed, with_net, with_link, with_route, without_route, with_permission, route_of, key_of}
 use Rattle.policy_state.specs.Table.{PhysicalLink, physical_links_of, physical_links}
 use Rattle.policy_state.specs.View.{StateView, link_named}
@@ -31,7 +29,7 @@ use Rattle.policy_state.specs.declared.command.Command.TheVariants as command
 use Rattle.policy_state.proofs.PhysicalLinks.{all-at, all-from, all-mapped, is_there}
 use Rattle.rule_compile.specs.Rows.{physical_link, rule_for, row_of_net, row_of}
 use Rattle.rule_compile.specs.declared.link_rules.Row.{Row}
-use Rattle.rule_compile.proofs.LinkRows.{ForLink, for_link, filter_map-flat, leads, same_table, GoesById}
+use Rattle.rule_compile.proofs.LinkRows.{alike-selectors, ForLink, for_link, filter_map-flat, leads, same_table, GoesById}
 
 -- What a command makes of the networks, as far as the rules go: nothing, a link comes into one, or one has another permission.
 pub data Turn (s t : StateView) : Type 0 where
@@ -40,7 +38,7 @@ pub data Turn (s t : StateView) : Type 0 where
   PermissionTurns : (net : ℕ) (permission : Permission) → t.networks ≡ (with_net net (with_permission permission) s).networks → Turn s t
 
 -- a change of a network that leaves its id, its kind and its interfaces
-links-kept : (net : ℕ) (change : Network → Network) → ((n : Network) → physical_links_of (change n) ≡ physical_links_of n)
+pub links-kept : (net : ℕ) (change : Network → Network) → ((n : Network) → physical_links_of (change n) ≡ physical_links_of n)
     → (ns : List Network) → flat_map physical_links_of (map (λ (n : Network). if net == n.id then change n else n) ns) ≡ flat_map physical_links_of ns
 links-kept net change kept [] = refl
 links-kept net change kept (n ∷ ns) =
@@ -210,7 +208,7 @@ module _ (which : Row) where
         let one : Network → Network = λ n. if net == n.id then change n else n in
         subst (λ rules. TurnsInto rule_kind (row_of which ns) rules) (sym (flat_map-map (row_of_net which) one ns))
         (TurnsInto-joined rule_kind (λ (n : Network). n.id) (λ (x : Rule). x.mark % 65536)
-        (λ x y like. ap (λ m. m % 65536) (same_selectors-true x y (and_parts _ _ like).1).mark)
+        (λ x y like. ap (λ m. m % 65536) (alike-selectors x y like).mark)
         (row_of_net which) (λ n. row_of_net which (one n)) ns
         (shows (row_of_net which) part-names ns below)
         (shows (λ n. row_of_net which (one n)) (λ n small x there.

@@ -8,7 +8,7 @@ use Rattle.kernel_model.specs.Journal.{replay_from}
 use Rattle.kernel_model.specs.Segment.{done}
 use Rattle.kernel_model.specs.Switch.{additions, deletions, requests_of, switched}
 use Rattle.kernel_model.specs.declared.request.Request.{Request}
-use Rattle.policy_state.specs.Step.{refusal, changed, route_of, key_of, routes_at}
+use Rattle.policy_state.specs.Step.{FitsTypes, refusal, changed, route_of, key_of, routes_at}
 use Rattle.policy_state.specs.Table.{rule_table, route_list, link_table}
 use Rattle.policy_state.specs.View.{StateView, IsGood, start, link_named}
 use Rattle.policy_state.specs.declared.command.Command.{Command}
@@ -53,5 +53,6 @@ started = switched kernel_start [] (rule_table start) []
 -- The kernel stands for the state, and the state accepts the command.
 pub record MayStep (k : KernelState) (s : StateView) (c : Command) : Type 0 where
   pub good : IsGood s
+  pub fits : FitsTypes c
   pub accepted : refusal s c ≡ None
   pub stands : Stands k (rule_table s) (route_list s)

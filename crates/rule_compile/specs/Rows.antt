@@ -4,8 +4,11 @@ use Rattle.std.specs.List.{filter_map}
 use Rattle.fwmark.specs.declared.permission.Permission.{Permission}
 use Rattle.fwmark.specs.declared.permission.Permission.TheVariants as needs
 use Rattle.networks.specs.declared.network.Network.{Network}
+use Rattle.networks.specs.declared.network.LinkRoute.{LinkRoute}
+use Rattle.prefixes.specs.declared.route.Route.{Route}
 use Rattle.rule_match.specs.declared.rule.Rule.{Rule}
-use Rattle.policy_state.specs.Table.{PhysicalLink, physical_links_of, is_free, root_interface_rule, explicit_rule, bound_rule, implicit_rule}
+use Rattle.policy_state.specs.Step.{is_keyed_by}
+use Rattle.policy_state.specs.Table.{link_table, PhysicalLink, physical_links_of, is_free, root_interface_rule, explicit_rule, bound_rule, implicit_rule}
 use Rattle.rule_compile.specs.declared.link_rules.Row.{Row}
 use Rattle.rule_compile.specs.declared.link_rules.Row.TheVariants as row
 
@@ -36,3 +39,7 @@ rules_each needs.System = 3
 -- how many rules all these levels have for a network
 abbrev pub count_for : Network → ℕ
 count_for n = 3 * length (physical_links_of n) + length (filter is_free (physical_links_of n))
+
+-- the routes that belong to the link and have the key, with the table of the link
+abbrev pub keyed_by : ℕ → Route → List LinkRoute → List (ℕ × Route)
+keyed_by link key routes = map (λ r. (link_table link, r.route)) (filter (λ r. is_keyed_by link key r) routes)

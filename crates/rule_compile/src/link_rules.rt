@@ -162,7 +162,11 @@ fn add_row_of_net(rules: &mut Vec<Rule>, row: Row, network: &Network) -> Result<
 }
 
 /// Appends the rules of this level, by network and then by interface.
-pub(crate) fn add_row(rules: &mut Vec<Rule>, row: Row, networks: &Networks) -> Result<(), AllocError>
+pub(crate) fn add_row(
+    rules: &mut Vec<Rule>,
+    row: Row,
+    networks: &Networks,
+) -> Result<(), AllocError>
     ensures { IfOk result (λ _. rules.new.items ≡ rules.old.items ++ row_of row networks.now) }
 {
     for place in 0..networks.len() {

@@ -34,8 +34,8 @@ pub(crate) fn twins(alloc: Global, rules: &[Rule]) -> Result<Vec<Request>, Alloc
 /// What brings a kernel from the rules of one state to those of another.
 fn change_rules(alloc: Global, old: &State, new: &State) -> Result<Plan, AllocError>
     ensures { IfOk result (λ plan. plan ≡ record {
-        adds = additions (rule_table old.now) (rule_table new.now);
-        deletes = deletions (rule_table old.now) (rule_table new.now) []
+      adds = additions (rule_table old.now) (rule_table new.now);
+      deletes = deletions (rule_table old.now) (rule_table new.now) [];
     }) }
 {
     let old_rules = rules(alloc, old)?;
@@ -55,7 +55,10 @@ pub fn plan(alloc: Global, old: &State, new: &State, command: &Command) -> Resul
 {
     match command {
         Command::RouteAdd {
-            name, prefix, way, ..
+            name,
+            prefix,
+            way,
+            ..
         } => {
             let adds = route_that_comes(alloc, old, name, *prefix, *way)?;
             Ok(Plan::of(adds, Vec::new(alloc)))

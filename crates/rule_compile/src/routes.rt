@@ -4,6 +4,7 @@ ghost use Rattle.kernel_model.specs.Switch.{requests_of};
 ghost use Rattle.policy_state.specs.Step.{out_of, key_of, is_keyed_by};
 ghost use Rattle.policy_state.specs.declared.command.Command.TheVariants.{RouteAdd, RouteRemove};
 ghost use Rattle.rule_compile.specs.Asked.{routes_come, routes_gone};
+ghost use Rattle.rule_compile.specs.Rows.{keyed_by};
 
 use crate::link_rules::link_table;
 use kernel_model::Request;
@@ -74,6 +75,27 @@ pub(crate) fn route_that_comes(
     Ok(requests)
 }
 
+/// What asks for those of the routes that belong to the link and have the key.
+fn requests_by(
+    alloc: Global,
+    routes: &[LinkRoute],
+    link: u16,
+    key: &Route,
+) -> Result<Vec<Request>, AllocError>
+    ensures { IfOk result (λ requests. requests.items ≡ requests_of (keyed_by link key.now routes.now)) }
+{
+    let mut requests = Vec::new(alloc);
+    for route in routes {
+        if is_keyed_by(route, link, key) {
+            requests.push(Request::Route {
+                table: link_table(link),
+                route: route.route,
+            })?;
+        }
+    }
+    Ok(requests)
+}
+
 /// What asks for the route of a network's link that has the key.
 pub(crate) fn route_that_goes(
     alloc: Global,
@@ -85,21 +107,12 @@ pub(crate) fn route_that_goes(
 ) -> Result<Vec<Request>, AllocError>
     ensures { IfOk result (λ requests. requests.items ≡ requests_of (routes_gone state.now (RouteRemove net name.now prefix special))) }
 {
-    let mut requests = Vec::new(alloc);
     let Some(link) = state.link_named(name) else {
-        return Ok(requests);
+        return Ok(Vec::new(alloc));
     };
     let Some(network) = state.networks().get(net) else {
-        return Ok(requests);
+        return Ok(Vec::new(alloc));
     };
     let key = key_of(link, prefix, special);
-    for route in network.routes.as_slice() {
-        if is_keyed_by(route, link, &key) {
-            requests.push(Request::Route {
-                table: link_table(link),
-                route: route.route,
-            })?;
-        }
-    }
-    Ok(requests)
+    requests_by(alloc, network.routes.as_slice(), link, &key)
 }

@@ -3,7 +3,9 @@ ghost use Rattle.kernel_model.specs.Kind.{rule_kind};
 ghost use Rattle.rule_law.specs.Rules.{HasEachOnce};
 ghost use Rattle.policy_state.specs.Table.{lockdown_rule, explicit_local_rule, local_rule, last_rule, rule_table};
 
-use crate::link_rules::{EXPLICIT, EXPLICIT_PRIORITY, LOOPBACK, Row, SELECTION, add_row, count_for};
+use crate::link_rules::{
+    EXPLICIT, EXPLICIT_PRIORITY, LOOPBACK, Row, SELECTION, add_row, count_for,
+};
 use policy_state::State;
 use rule_match::{Action, Rule};
 use std::alloc::{AllocError, Global};

@@ -1,4 +1,4 @@
-use Rattle.std.proofs.Common.{◌≡◌, ◌<◌, ◌+◌, ◌++◌, ◌∷◌, [], ℕ, List, Some, map, take, length, slice_get, ap, sym, ◌∙◌, arith, add-one, append_assoc}
+use Rattle.std.proofs.Common.{◌≡◌, ◌<◌, ◌+◌, ◌++◌, ◌∷◌, [], ℕ, List, Some, map, take, length, slice_get, ap, sym, ◌∙◌, arith, append_assoc}
 use Rattle.uid_ranges.specs.declared.range.UidRange.{UidRange}
 use Rattle.rule_match.specs.declared.rule.Rule.{Rule}
 use Rattle.policy_state.specs.Table.{lockdown_rule}
@@ -11,7 +11,7 @@ one_more : (before old new : List Rule) (ranges : List UidRange) (place : ℕ) (
 one_more before old new ranges place range at was is =
     is ∙ (ap (λ rules. rules ++ lockdown_rule range ∷ []) was
     ∙ (append_assoc before (map lockdown_rule (take place ranges)) (lockdown_rule range ∷ [])
-    ∙ ap (λ rules. before ++ rules) (sym (row-more lockdown_rule ranges place range at) ∙ ap (λ n. map lockdown_rule (take n ranges)) (sym (add-one place)))))
+    ∙ ap (λ rules. before ++ rules) (sym (row-more lockdown_rule ranges place range at))))
 
 pub loop-place-preserved : goal.loop-place-preserved
 loop-place-preserved c = elim c.match-at.branch [

@@ -1,0 +1,112 @@
+-- What a packet meets while a command is carried out, and what the kernel stands for behind it.
+use Rattle.std.proofs.Common.{◌≡◌, ℕ, ◌∷◌, [], List, Some, not, filter, slice_get, refl, sym, ◌∙◌, ap, subst}
+use Rattle.fib_table.specs.Table.{routes_in, has_route}
+use Rattle.prefixes.specs.declared.route.Route.{Route}
+use Rattle.rule_match.specs.declared.packet.Packet.{Packet}
+use Rattle.rule_match.specs.declared.rule.Rule.{Rule}
+use Rattle.kernel_model.specs.Journal.{replay_from}
+use Rattle.kernel_model.specs.Segment.{done, undone, IsSegment}
+use Rattle.kernel_model.specs.Stands.{Stands}
+use Rattle.kernel_model.specs.State.{KernelState}
+use Rattle.kernel_model.specs.Switch.{additions, deletions, GiveAlike}
+use Rattle.kernel_model.specs.declared.request.Entry.{Entry}
+use Rattle.kernel_model.specs.declared.request.Request.{Request}
+use Rattle.kernel_model.specs.declared.request.Request.TheVariants as req
+use Rattle.kernel_model.proofs.Routes.{one_addition_goes, one_deletion_goes, one_addition_goes_back, one_deletion_goes_back, one_undone, added_stands, deleted_stands}
+use Rattle.kernel_model.proofs.Segments.{Goes, GoesBack, segment_goes_back}
+use Rattle.kernel_model.proofs.Standing.{done_stands}
+use Rattle.kernel_model.proofs.Switches.{done_goes_over, undone_goes_back, undone_leaves}
+use Rattle.policy_state.specs.Step.{changed}
+use Rattle.policy_state.specs.Table.{rule_table, route_list}
+use Rattle.policy_state.specs.View.{StateView}
+use Rattle.policy_state.specs.declared.command.Command.{Command}
+use Rattle.policy_state.proofs.Goodness.{good-changed}
+use Rattle.rule_compile.specs.Asked.{asked_adds, asked_deletes, carried, MayStep}
+use Rattle.rule_compile.proofs.Asks.{Asks, Rules, Comes, Goes as GivesUp, asks}
+use Rattle.rule_compile.proofs.Tables.{is_switch, table-givers}
+
+keep_all : (xs : List Route) → xs ≡ filter (λ r. not (has_route [] r)) xs
+keep_all [] = refl
+keep_all (x ∷ xs) = ap (λ rest. x ∷ rest) (keep_all xs)
+
+-- what is shown of two lists of requests holds of equal ones
+of_equal : (P : List Request → List Request → Type 0) (adds deletes more less : List Request) → adds ≡ more → deletes ≡ less → P more less → P adds deletes
+of_equal P adds deletes more less a b h = subst (λ qs. P qs deletes) (sym a) (subst (λ qs. P more qs) (sym b) h)
+
+module _ (k : KernelState) (s : StateView) (c : Command) (may : MayStep k s c) where
+  abbrev old : List Rule
+  old = rule_table s
+
+  abbrev new : List Rule
+  new = rule_table (changed s c)
+
+  module _ (packet : Packet) where
+    old-alike : GiveAlike k packet old
+    old-alike = table-givers s k.tables packet may.good
+
+    new-alike : GiveAlike k packet new
+    new-alike = table-givers (changed s c) k.tables packet (good-changed s c may.good may.fits may.accepted)
+
+    goes-by : Asks s c → Goes k (asked_adds s c) (asked_deletes s c) packet (done (asked_adds s c) (asked_deletes s c))
+    goes-by (Rules it) =
+        of_equal (λ adds deletes. Goes k adds deletes packet (done adds deletes)) (asked_adds s c) (asked_deletes s c) (additions old new) (deletions old new []) it.adds it.deletes
+        (done_goes_over k old new [] (is_switch k s c may) packet old-alike new-alike)
+    goes-by (Comes it) =
+        of_equal (λ adds deletes. Goes k adds deletes packet (done adds deletes)) (asked_adds s c) (asked_deletes s c) (req.Route it.table it.route ∷ []) [] it.adds it.deletes
+        (one_addition_goes k (req.Route it.table it.route) packet)
+    goes-by (GivesUp it) =
+        of_equal (λ adds deletes. Goes k adds deletes packet (done adds deletes)) (asked_adds s c) (asked_deletes s c) [] (req.Route it.table it.route ∷ []) it.adds it.deletes
+        (one_deletion_goes k (req.Route it.table it.route) packet)
+
+    pub all_goes : Goes k (asked_adds s c) (asked_deletes s c) packet (done (asked_adds s c) (asked_deletes s c))
+    all_goes = goes-by (asks s c may.good may.accepted)
+
+    abbrev AlongSegments : List Request → List Request → Type 0
+    AlongSegments adds deletes = (entries : List Entry) → IsSegment adds deletes entries → GoesBack k adds deletes packet entries
+
+    back-by : Asks s c → AlongSegments (asked_adds s c) (asked_deletes s c)
+    back-by (Rules it) =
+        of_equal AlongSegments (asked_adds s c) (asked_deletes s c) (additions old new) (deletions old new []) it.adds it.deletes
+        (segment_goes_back k (additions old new) (deletions old new []) packet (done_goes_over k old new [] (is_switch k s c may) packet old-alike new-alike)
+        (λ i refused next. undone_goes_back k old new [] (is_switch k s c may) packet old-alike new-alike i refused))
+    back-by (Comes it) =
+        of_equal AlongSegments (asked_adds s c) (asked_deletes s c) (req.Route it.table it.route ∷ []) [] it.adds it.deletes
+        (one_addition_goes_back k (req.Route it.table it.route) packet)
+    back-by (GivesUp it) =
+        of_equal AlongSegments (asked_adds s c) (asked_deletes s c) [] (req.Route it.table it.route ∷ []) it.adds it.deletes
+        (one_deletion_goes_back k (req.Route it.table it.route) packet)
+
+    pub segment_goes : AlongSegments (asked_adds s c) (asked_deletes s c)
+    segment_goes = back-by (asks s c may.good may.accepted)
+
+  abbrev Ends : List Request → List Request → Type 0
+  Ends adds deletes = Stands (replay_from k (done adds deletes)) new (route_list (changed s c))
+
+  stands-by : Asks s c → Ends (asked_adds s c) (asked_deletes s c)
+  stands-by (Rules it) =
+      of_equal Ends (asked_adds s c) (asked_deletes s c) (additions old new) (deletions old new []) it.adds it.deletes
+      (done_stands k old new (route_list s) [] (route_list (changed s c)) (is_switch k s c may) may.stands
+      (λ n. ap (routes_in n) it.routes ∙ keep_all (routes_in n (route_list s))))
+  stands-by (Comes it) =
+      of_equal Ends (asked_adds s c) (asked_deletes s c) (req.Route it.table it.route ∷ []) [] it.adds it.deletes
+      (subst (λ rules. Stands (replay_from k (done (req.Route it.table it.route ∷ []) [])) rules (route_list (changed s c))) (sym it.rules)
+      (added_stands k old (route_list s) (route_list (changed s c)) it.table it.route may.stands it.not_own it.routes))
+  stands-by (GivesUp it) =
+      of_equal Ends (asked_adds s c) (asked_deletes s c) [] (req.Route it.table it.route ∷ []) it.adds it.deletes
+      (subst (λ rules. Stands (replay_from k (done [] (req.Route it.table it.route ∷ []))) rules (route_list (changed s c))) (sym it.rules)
+      (deleted_stands k old (route_list s) (route_list (changed s c)) it.table it.route may.stands it.not_own it.routes))
+
+  pub done_ends : Stands (carried k s c) new (route_list (changed s c))
+  done_ends = stands-by (asks s c may.good may.accepted)
+
+  undone-by : Asks s c → (i : ℕ) (refused : Request) → slice_get (asked_adds s c) i ≡ Some refused → replay_from k (undone (asked_adds s c) i refused) ≡ k
+  undone-by (Rules it) i refused next =
+      ap (λ adds. replay_from k (undone adds i refused)) it.adds ∙ undone_leaves k old new [] (is_switch k s c may) i refused
+  undone-by (Comes it) i refused next =
+      ap (λ adds. replay_from k (undone adds i refused)) it.adds ∙ one_undone k (req.Route it.table it.route) i refused (sym (ap (λ adds. slice_get adds i) it.adds) ∙ next)
+  undone-by (GivesUp it) i refused next =
+      let none : slice_get [] i ≡ Some refused = sym (ap (λ adds. slice_get adds i) it.adds) ∙ next in
+      absurd cc
+
+  pub undone_ends : (i : ℕ) (refused : Request) → slice_get (asked_adds s c) i ≡ Some refused → replay_from k (undone (asked_adds s c) i refused) ≡ k
+  undone_ends = undone-by (asks s c may.good may.accepted)
