@@ -45,10 +45,12 @@ faults_later {kind} {value} {old} {new} kinds (Bad column) one stop = stops_late
 faults_later kinds (Memory fault) one stop = tt
 
 -- an exit with this fault
-pub reads_fault : (form : Form) (cursor : Words) (read : Result Line LineFault) (fault : LineFault) → IsErrAnd read (λ error. error ≡ fault) → Faults (kinds_of form) cursor fault → Reads form cursor read
+pub reads_fault : (form : Form) (cursor : Words) (read : Result Line LineFault) (fault : LineFault) →
+    IsErrAnd read (λ error. error ≡ fault) → Faults (kinds_of form) cursor fault → Reads form cursor read
 reads_fault form cursor read fault failed stops =
     let error = err_from_is_err_and read failed in
-    subst (λ (r : Result Line LineFault). Reads form cursor r) (sym error.1) (subst (λ (f : LineFault). Faults (kinds_of form) cursor f) (sym error.2) stops)
+    subst (λ (r : Result Line LineFault). Reads form cursor r) (sym error.1)
+    (subst (λ (f : LineFault). Faults (kinds_of form) cursor f) (sym error.2) stops)
 
 -- what the exits of a form go by
 pub ruleset form_steps = (faults_here, faults_later)

@@ -21,7 +21,8 @@ joined_spaced piece (next ∷ pieces) = ap (λ (text : List ℕ). piece_text pie
 pub spaced-append : (pieces others : List Piece) → spaced (pieces ++ others) ≡ spaced pieces ++ spaced others
 spaced-append [] others = refl
 spaced-append (piece ∷ pieces) others =
-    ap (λ (text : List ℕ). 32 ∷ piece_text piece ++ text) (spaced-append pieces others) ∙ ap (λ (text : List ℕ). 32 ∷ text) (sym (append_assoc (piece_text piece) (spaced pieces) (spaced others)))
+    ap (λ (text : List ℕ). 32 ∷ piece_text piece ++ text) (spaced-append pieces others)
+    ∙ ap (λ (text : List ℕ). 32 ∷ text) (sym (append_assoc (piece_text piece) (spaced pieces) (spaced others)))
 
 pub route_regrouped : (verb : List ℕ) (id : ℕ) (link : List ℕ) (dest : Prefix) →
     ((verb ++ 32 ∷ decimal id) ++ 32 ∷ link) ++ 32 ∷ canonical_prefix dest ≡ verb ++ spaced (route_pieces id link dest [])

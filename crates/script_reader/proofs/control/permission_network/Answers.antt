@@ -7,12 +7,21 @@ use Rattle.script_reader.proofs.control.permission_network.Goals as goal
 
 pub returns-in_err-net : goal.returns-in_err-net
 returns-in_err-net c = reads_fault form.PermissionNetwork c.args.words c.from_residual-in_err-net.result c.in_err-net.field-0.0 c.from_residual-in_err-net.ensures.1
-    (faults_later (drop 1 (kinds_of form.PermissionNetwork)) _ c.in_ok-literal.ensures (faults_later (drop 2 (kinds_of form.PermissionNetwork)) _ c.in_ok-literal-2.ensures (faults_here (count any_net) (drop 3 (kinds_of form.PermissionNetwork)) c.literal-2.new.self c.in_err-net.field-0.0 c.in_err-net.ensures)))
+    (faults_later (drop 1 (kinds_of form.PermissionNetwork)) c.in_err-net.field-0.0 c.in_ok-literal.ensures
+    (faults_later (drop 2 (kinds_of form.PermissionNetwork)) c.in_err-net.field-0.0 c.in_ok-literal-2.ensures
+    (faults_here (count any_net) (drop 3 (kinds_of form.PermissionNetwork)) c.literal-2.new.self c.in_err-net.field-0.0 c.in_err-net.ensures)))
 
 pub returns-in_err-permission : goal.returns-in_err-permission
 returns-in_err-permission c = reads_fault form.PermissionNetwork c.args.words c.from_residual-in_err-permission.result c.in_err-permission.field-0.0 c.from_residual-in_err-permission.ensures.1
-    (faults_later (drop 1 (kinds_of form.PermissionNetwork)) _ c.in_ok-literal.ensures (faults_later (drop 2 (kinds_of form.PermissionNetwork)) _ c.in_ok-literal-2.ensures (faults_later (drop 3 (kinds_of form.PermissionNetwork)) _ c.in_ok-net.ensures (faults_here permission (drop 4 (kinds_of form.PermissionNetwork)) c.any_net.new.self c.in_err-permission.field-0.0 c.in_err-permission.ensures))))
+    (faults_later (drop 1 (kinds_of form.PermissionNetwork)) c.in_err-permission.field-0.0 c.in_ok-literal.ensures
+    (faults_later (drop 2 (kinds_of form.PermissionNetwork)) c.in_err-permission.field-0.0 c.in_ok-literal-2.ensures
+    (faults_later (drop 3 (kinds_of form.PermissionNetwork)) c.in_err-permission.field-0.0 c.in_ok-net.ensures
+    (faults_here permission (drop 4 (kinds_of form.PermissionNetwork)) c.any_net.new.self c.in_err-permission.field-0.0 c.in_err-permission.ensures))))
 
 pub returns-in_err-end : goal.returns-in_err-end
 returns-in_err-end c = reads_fault form.PermissionNetwork c.args.words c.from_residual-in_err-end.result c.in_err-end.field-0.0 c.from_residual-in_err-end.ensures.1
-    (faults_later (drop 1 (kinds_of form.PermissionNetwork)) _ c.in_ok-literal.ensures (faults_later (drop 2 (kinds_of form.PermissionNetwork)) _ c.in_ok-literal-2.ensures (faults_later (drop 3 (kinds_of form.PermissionNetwork)) _ c.in_ok-net.ensures (faults_later (drop 4 (kinds_of form.PermissionNetwork)) _ c.in_ok-permission.ensures (c.in_err-end.ensures)))))
+    (faults_later (drop 1 (kinds_of form.PermissionNetwork)) c.in_err-end.field-0.0 c.in_ok-literal.ensures
+    (faults_later (drop 2 (kinds_of form.PermissionNetwork)) c.in_err-end.field-0.0 c.in_ok-literal-2.ensures
+    (faults_later (drop 3 (kinds_of form.PermissionNetwork)) c.in_err-end.field-0.0 c.in_ok-net.ensures
+    (faults_later (drop 4 (kinds_of form.PermissionNetwork)) c.in_err-end.field-0.0 c.in_ok-permission.ensures
+    c.in_err-end.ensures))))
