@@ -1,8 +1,9 @@
-ghost use Rattle.std.specs.Prelude.{◌≡◌, ◌++◌, ◌∷◌, [], filter, not, IfOk, length};
-ghost use Rattle.networks.specs.Network.{has_link, holds_user, routes_by};
+ghost use Rattle.std.specs.Prelude.{◌≡◌, ◌++◌, ◌∷◌, [], ◌==◌, ◌&&◌, filter, not, IfOk};
+ghost use Rattle.networks.specs.Network.{has_link, holds_user};
+ghost use Rattle.prefixes.specs.Route.{same_key};
 
 use fwmark::Permission;
-use prefixes::Route;
+use prefixes::{same_key, Route};
 use std::alloc::{AllocError, Global};
 use std::marker::Model;
 use uid_ranges::{RangeList, Uid};
@@ -66,6 +67,15 @@ pub struct LinkRoute {
     pub route: Route,
 }
 
+impl LinkRoute {
+    /// Whether the route is the link's and has this one's key.
+    pub fn is_keyed_by(&self, link: u16, key: &Route) -> bool
+        ensures { result ≡ ((self.now.link == link) && same_key self.now.route key.now) }
+    {
+        self.link == link && same_key(&self.route, key)
+    }
+}
+
 /// The routes of a network, in the order of their addition.
 #[derive(Debug, Drop)]
 pub struct LinkRoutes {
@@ -116,6 +126,20 @@ impl LinkRoutes {
         let alloc = *self.items.allocator();
         let mut items = Vec::from_slice(alloc, self.items.as_slice())?;
         items.push(route)?;
+        Ok(LinkRoutes { items })
+    }
+
+    /// The list without the link's routes of this one's key, in its order.
+    pub fn without(&self, link: u16, key: &Route) -> Result<LinkRoutes, AllocError>
+        ensures { IfOk result (λ routes. routes ≡ filter (λ r. not ((r.link == link) && same_key r.route key.now)) self.now) }
+    {
+        let alloc = *self.items.allocator();
+        let items = self
+            .items
+            .iter()
+            .copied()
+            .filter(|route| !route.is_keyed_by(link, key))
+            .collect(alloc)?;
         Ok(LinkRoutes { items })
     }
 }

@@ -1,7 +1,6 @@
 -- Which commands are refused, and what the others change, after netd's RouteController and NetworkController.
-use Rattle.std.specs.Prelude.{◌∷◌, [], ◌++◌, ◌&&◌, ◌||◌, ◌==◌, ℕ, Bool, true, false, List, Option, Some, None, length, nat_le, nat_lt, not, filter, map, is_none, is_some, codes, if◌then◌else◌}
+use Rattle.std.specs.Prelude.{◌∷◌, [], ◌++◌, ◌&&◌, ◌||◌, ◌==◌, ◌<◌, ℕ, Bool, true, false, List, Option, Some, None, length, nat_le, nat_lt, not, filter, map, is_none, is_some, codes, if◌then◌else◌}
 use Rattle.std.specs.List.{list_any}
-use Rattle.std.specs.Option.{option_map}
 use Rattle.std.specs.Str.{bytes_eq}
 use Rattle.fib_table.specs.Table.{has_key}
 use Rattle.fwmark.specs.declared.permission.Permission.{Permission}
@@ -141,6 +140,12 @@ reasons s (command.LockdownRemove range) = because code.NoEntry (not (has s.lock
 -- the code of the first reason that holds, or none where the command is accepted
 abbrev pub refusal : StateView → Command → Option Code
 refusal s c = first_that_holds (reasons s c)
+
+-- The numbers that a command puts into a state are those of a `u16`, as every command has them. Goodness keeps them below 65536.
+abbrev pub FitsTypes : Command → Type 0
+FitsTypes (command.LinkAdd name index) = index < 65536
+FitsTypes (command.CreatePhysical net permission) = net < 65536
+FitsTypes _ = Unit {0}
 
 -- the network of this id changed, and no other
 abbrev pub with_net : ℕ → (Network → Network) → StateView → StateView

@@ -4,7 +4,7 @@
 -- by link 1, `lo`. Table 97 is the local network's; the table of a physical interface is 1000 and its index. Every table of a
 -- good state is far below the limit of 40,000 rules: there are at most 4,095 interfaces, each with four rules, and 1,003 rules
 -- beside them.
-use Rattle.std.specs.Prelude.{◌∷◌, [], ◌++◌, ℕ, ◌+◌, ◌*◌, Bool, true, false, List, map, filter, flat_map, Option, Some, None}
+use Rattle.std.specs.Prelude.{◌∷◌, [], ◌++◌, ℕ, ◌+◌, ◌*◌, Bool, true, false, List, map, filter, flat_map, Some, None}
 use Rattle.std.proofs.Common.{lit≤}
 use Rattle.fwmark.specs.Permission.{bits_of}
 use Rattle.fwmark.specs.declared.permission.Permission.{Permission}

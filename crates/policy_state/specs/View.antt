@@ -1,5 +1,5 @@
 -- What contracts see of a state.
-use Rattle.std.specs.Prelude.{◌≡◌, ◌≢◌, ℕ, ◌≤◌, ◌<◌, ◌==◌, ◌&&◌, not, Bool, true, List, [], ◌∷◌, ◌++◌, length, map, flat_map, codes, Option, Some, None}
+use Rattle.std.specs.Prelude.{◌≡◌, ℕ, ◌≤◌, ◌<◌, ◌==◌, ◌&&◌, not, Bool, true, List, [], ◌∷◌, length, map, flat_map, codes, Option, Some, None}
 use Rattle.std.specs.List.{list_any, find, AllByRecursion}
 use Rattle.std.specs.Option.{option_map}
 use Rattle.std.specs.Str.{bytes_eq}
@@ -11,7 +11,6 @@ use Rattle.networks.specs.declared.network.Network.{Network}
 use Rattle.networks.specs.declared.network.Kind.TheVariants as kind
 use Rattle.networks.specs.declared.network.LinkRoute.{LinkRoute}
 use Rattle.prefixes.specs.Addr.{family_of}
-use Rattle.prefixes.specs.declared.route.Out.{Out}
 use Rattle.prefixes.specs.declared.route.Out.TheVariants as out
 use Rattle.policy_state.specs.declared.link.Link.{Link}
 use Rattle.uid_ranges.specs.Ranges.{AreDisjoint}

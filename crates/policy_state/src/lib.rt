@@ -1,10 +1,14 @@
 //! The state of the policy, the commands that change it, and the table of rules that it stands for.
 #![tactic(auto)]
 
+mod change;
 mod command;
 mod fault;
 mod link;
+mod reasons;
+mod routes;
 mod state;
+mod step;
 
 pub use command::{Command, Way};
 pub use fault::StepFault;

@@ -1,0 +1,57 @@
+-- What an accepted command shows: none of the reasons against it holds.
+use Rattle.std.proofs.Common.{◌≡◌, ℕ, Bool, true, false, List, [], ◌∷◌, Option, Some, None, is_none, length, nat_le, refl, sym, ap, inl, inr}
+use Rattle.std.specs.List.{AllByRecursion}
+use Rattle.std.proofs.lemmas.Bool.{cases_Bool, both_ways}
+use Rattle.std.proofs.lemmas.Option.{none-some}
+use Rattle.networks.specs.Lists.{find_id}
+use Rattle.networks.specs.Network.{has_link, routes_by}
+use Rattle.networks.specs.declared.network.Network.{Network}
+use Rattle.networks.specs.declared.network.Kind.TheVariants as kind
+use Rattle.prefixes.specs.declared.route.Route.{Route}
+use Rattle.policy_state.specs.View.{StateView, link_named, most_interfaces}
+use Rattle.policy_state.specs.Step.{Reason, first_that_holds, of_link, changed_by_link, is_in, is_full, routes_at, is_physical}
+
+pub none_holds : (rs : List Reason) → first_that_holds rs ≡ None → AllByRecursion (λ r. r.holds ≡ false) rs
+none_holds [] none = tt
+none_holds (r ∷ rs) none = elim (cases_Bool r.holds) as (λ _. AllByRecursion (λ x. x.holds ≡ false) (r ∷ rs)) [
+  | inl here ↦ absurd (none-some r.code (sym (rw here at none)))
+  | inr other ↦ (other, none_holds rs (rw other at none))
+]
+
+-- what an option that isn't none holds
+pub some_there : {X : Type 0} (o : Option X) → is_none o ≡ false → (x : X) × (o ≡ Some x)
+some_there None there = absurd (both_ways true there refl)
+some_there (Some x) there = (x, refl)
+
+-- the link of a name, of which a test holds
+pub link_there : (s : StateView) (name : List ℕ) (test : ℕ → Bool) → of_link s name test ≡ true → (link : ℕ) × ((link_named s name ≡ Some link) × (test link ≡ true))
+link_there s name test h = by (link_named s name) refl h
+  where
+    by : (o : Option ℕ) → link_named s name ≡ o → elim o as (λ _. Bool) [ Some link ↦ test link | None ↦ false ] ≡ true → (link : ℕ) × ((link_named s name ≡ Some link) × (test link ≡ true))
+    by None is h = absurd (both_ways true (sym h) refl)
+    by (Some link) is h = (link, (is, h))
+
+-- what the tests on a link, a network or an interface are where it is there
+pub of_link-at : (s : StateView) (name : List ℕ) (test : ℕ → Bool) (link : ℕ) → link_named s name ≡ Some link → of_link s name test ≡ test link
+of_link-at s name test link is = ap (λ (o : Option ℕ). elim o as (λ _. Bool) [ Some i ↦ test i | None ↦ false ]) is
+
+pub changed_by_link-at : (s : StateView) (name : List ℕ) (change : ℕ → StateView → StateView) (link : ℕ) → link_named s name ≡ Some link → changed_by_link s name change ≡ change link s
+changed_by_link-at s name change link is = ap (λ (o : Option ℕ). elim o as (λ _. StateView) [ Some i ↦ change i s | None ↦ s ]) is
+
+module _ (s : StateView) (net : ℕ) (n : Network) (found : find_id net s.networks ≡ Some n) where
+  pub is_in-at : (link : ℕ) → is_in s net link ≡ has_link n link
+  is_in-at link = ap (λ (o : Option Network). elim o as (λ _. Bool) [ Some m ↦ has_link m link | None ↦ false ]) found
+
+  pub is_full-at : is_full s net ≡ nat_le most_interfaces (length n.interfaces)
+  is_full-at = ap (λ (o : Option Network). elim o as (λ _. Bool) [ Some m ↦ nat_le most_interfaces (length m.interfaces) | None ↦ false ]) found
+
+  pub routes_at-at : (link : ℕ) → routes_at s net link ≡ routes_by link n.routes
+  routes_at-at link = ap (λ (o : Option Network). elim o as (λ _. List Route) [ Some m ↦ routes_by link m.routes | None ↦ [] ]) found
+
+pub is_physical-at : (s : StateView) (net : ℕ) (n : Network) → find_id net s.networks ≡ Some n
+    → is_physical s net ≡ elim n.kind as (λ _. Bool) [ kind.Physical permission ↦ true | kind.Virtual secure ranges ↦ false | kind.Local ↦ false ]
+is_physical-at s net n found =
+    ap (λ (o : Option Network). elim o as (λ _. Bool) [
+      | Some m ↦ elim m.kind as (λ _. Bool) [ kind.Physical permission ↦ true | kind.Virtual secure ranges ↦ false | kind.Local ↦ false ]
+      | None ↦ false
+    ]) found
