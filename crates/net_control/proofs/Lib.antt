@@ -1,3 +1,4 @@
 pub mod Carrying
 pub mod Causing
 pub mod Policed
+pub mod Bounding

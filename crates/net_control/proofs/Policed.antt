@@ -105,10 +105,13 @@ at_each {last} {at} {old} {new} goes i within = elim (cases_lt i goes.over) as (
 same_entries : (before after : KernelView) (xs ys : List Entry) → after ≡ grown before xs → after ≡ grown before ys → xs ≡ ys
 same_entries before after xs ys is same = append_cancel_left before.journal xs ys (ap (λ (k : KernelView). k.journal) (sym is ∙ same))
 
+-- what lockdown promises of the policy
+abbrev pub BarredStaysIn : Type 0
+BarredStaysIn = (s : StateView) (packet : Packet) → IsBarred s packet → packet.uid.number ≢ 0 → StaysIn (policy s packet)
+
 -- what the policy keeps in at every moment stays in
 pub locked : (before after : KernelView) (old new : StateView)
-    → ((s : StateView) (packet : Packet) → IsBarred s packet → packet.uid.number ≢ 0 → StaysIn (policy s packet))
-    → KeepsPolicy before after old new → KeepsLockdown before after old new
+    → BarredStaysIn → KeepsPolicy before after old new → KeepsLockdown before after old new
 locked before after old new bars keeps entries grew packet was is user i within =
     stays_in (at_each (keeps.moments packet) i (subst (λ (es : List Entry). i ≤ length es) (sym same) within))
   where
@@ -125,10 +128,16 @@ abbrev pub TableMeansPolicy : Type 0
 TableMeansPolicy = (s : StateView) (k : KernelState) (packet : Packet) → IsGood s → Stands k (rule_table s) (route_list s) → walk k packet ≡ policy s packet
 
 -- where the kernel stands for the state, it sends every packet where the policy does
-pub sends : (controller : ControllerView) (kernel : KernelView) → TableMeansPolicy → IsKept controller kernel → SendsByPolicy controller kernel
-sends controller kernel means kept running packet = means controller.state (state_of kernel) packet kept.good (kept.stands running)
+pub sends : (controller : ControllerView) (kernel : KernelView) → TableMeansPolicy → BarredStaysIn → IsKept controller kernel → SendsByPolicy controller kernel
+sends controller kernel means bars kept = record {
+  everywhere = everywhere;
+  locked = λ running packet barred user. subst StaysIn (sym (everywhere running packet)) (bars controller.state packet barred user);
+}
+  where
+    everywhere : controller.halted ≡ None → (packet : Packet) → walk (state_of kernel) packet ≡ policy controller.state packet
+    everywhere running packet = means controller.state (state_of kernel) packet kept.good (kept.stands running)
 
-pub started_sends : (r : Result ControllerView StartFault) (kernel : KernelView) → TableMeansPolicy → IfOk r (λ controller. IsKept controller kernel)
+pub started_sends : (r : Result ControllerView StartFault) (kernel : KernelView) → TableMeansPolicy → BarredStaysIn → IfOk r (λ controller. IsKept controller kernel)
     → IfOk r (λ controller. SendsByPolicy controller kernel)
-started_sends (Ok controller) kernel means kept = sends controller kernel means kept
-started_sends (Err fault) kernel means kept = tt
+started_sends (Ok controller) kernel means bars kept = sends controller kernel means bars kept
+started_sends (Err fault) kernel means bars kept = tt

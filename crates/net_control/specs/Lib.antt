@@ -4,3 +4,4 @@ pub mod Applied
 pub mod Started
 pub mod Causes
 pub mod Moments
+pub mod Bounds

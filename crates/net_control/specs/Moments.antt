@@ -11,9 +11,12 @@ use Rattle.policy_state.specs.View.{StateView}
 use Rattle.rule_law.specs.Plans.{GoesOverAndBack}
 use Rattle.rule_match.specs.declared.packet.Packet.{Packet}
 
--- unless the controller has halted, the kernel's rules send every packet where the policy of its state does
-abbrev pub SendsByPolicy : ControllerView → KernelView → Type 0
-SendsByPolicy controller kernel = controller.halted ≡ None → (packet : Packet) → walk (state_of kernel) packet ≡ policy controller.state packet
+-- Unless the controller has halted, the kernel's rules send every packet where the policy of its state does, and what a
+-- user other than root sends unprotected leaves by no link, if that user is locked down.
+pub record SendsByPolicy (controller : ControllerView) (kernel : KernelView) : Type 0 where
+  pub everywhere : controller.halted ≡ None → (packet : Packet) → walk (state_of kernel) packet ≡ policy controller.state packet
+  pub locked : controller.halted ≡ None → (packet : Packet) → IsBarred controller.state packet → packet.uid.number ≢ 0
+      → StaysIn (walk (state_of kernel) packet)
 
 -- Between any two of the requests that were asked, each packet goes where the old state's policy sends it, or where the
 -- new state's does: over once, and back where the requests were undone.

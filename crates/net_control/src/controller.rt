@@ -97,6 +97,7 @@ impl Controller {
     ghost use Rattle.net_control.specs.Started.{IsStarted};
     ghost use Rattle.net_control.specs.Applied.{IsAnswered};
     ghost use Rattle.net_control.specs.View.{IsKept};
+    ghost use Rattle.net_control.specs.Bounds.{KeepsLimit};
     ghost use Rattle.net_control.specs.Causes.{HasCause, HasStartCause};
     ghost use Rattle.net_control.specs.Moments.{KeepsLockdown, KeepsPolicy, SendsByPolicy};
     ghost use Rattle.policy_state.specs.Step.{changed};
@@ -136,7 +137,7 @@ impl Controller {
         ensures answer { IsStarted result (K.seen kernel.old) (K.seen kernel.new) }
         ensures kept { IfOk result (λ controller. IsKept controller (K.seen kernel.new)) }
 
-        // behind it every packet goes where the policy says
+        // behind it every packet goes where the policy says, and lockdown holds
         ensures sends { IfOk result (λ controller. SendsByPolicy controller (K.seen kernel.new)) }
 
         // each answer by its cause
@@ -148,6 +149,7 @@ impl Controller {
         start_law();
         own_rule_means_start();
         table_means_policy();
+        barred_stays_in();
         Controller::ask_start(alloc, kernel)
     }
 
@@ -224,11 +226,14 @@ impl Controller {
         ensures answer { IsAnswered result command.now self.old self.new (K.seen kernel.old) (K.seen kernel.new) }
         ensures kept { IsKept self.new (K.seen kernel.new) }
 
-        // behind it every packet goes where the policy says, unless the controller has halted
+        // behind it, unless the controller has halted, every packet goes where the policy says, and lockdown holds
         ensures sends { SendsByPolicy self.new (K.seen kernel.new) }
 
         // each answer by its cause
         ensures caused { HasCause result command.now self.old self.new (K.seen kernel.old) (K.seen kernel.new) }
+
+        // how much is asked
+        ensures bounded { KeepsLimit self.old.state command.now (K.seen kernel.old) (K.seen kernel.new) }
 
         // at every moment between two requests, undoing and halts included
         ensures moments { self.old.halted ≡ None → KeepsPolicy (K.seen kernel.old) (K.seen kernel.new) self.old.state (changed self.old.state command.now) }

@@ -1,10 +1,11 @@
 -- Why a session ends as it does, status by status, and what stands then.
-use Rattle.std.specs.Prelude.{◌≡◌, ◌≢◌, ◌⊎◌, ◌↔◌, ℕ, ◌<◌, ◌≤◌, true, List, length, Err}
+use Rattle.std.specs.Prelude.{◌≡◌, ◌≢◌, ◌⊎◌, ◌↔◌, ℕ, ◌<◌, ◌≤◌, true, List, [], length, Err}
 use Rattle.std.specs.List.{Contains}
 use Rattle.std.specs.Io.KnownBytes.{IsAtEnd}
 use Rattle.line_input.specs.Lines.{input_limit}
 use Rattle.kernel_model.specs.View.{KernelView}
 use Rattle.net_control.specs.Causes.{BrokeNone, BrokeSome}
+use Rattle.net_control.specs.Limit.{journal_limit}
 use Rattle.net_control.specs.Started.{IsStarted}
 use Rattle.net_control.specs.declared.controller.StartFault.TheVariants as fault
 use Rattle.script_reader.specs.Lines.{Spells}
@@ -60,6 +61,8 @@ pub record HasCauses (old new : World) (s : Status) (given : List ℕ) (lines : 
   pub too_long : (s ≡ status.TooLong) ↔ (input_limit < length given)
   -- where nothing failed it is 0, or 6
   pub complete : NothingFailed old new given lines → (s ≡ status.Finished) ⊎ (s ≡ status.Memory)
+  -- whatever the status, a journal that was empty stays within its limit
+  pub bounded : old.kernel.journal ≡ [] → length new.kernel.journal ≤ journal_limit
 
 -- the end of a session has a text, of which all was written
 abbrev pub WroteWhole : (old new : World) → EndedView → List ℕ → List (List ℕ) → List ℕ → Type 0

@@ -9,6 +9,7 @@ use Rattle.policy_meaning.specs.Policy.{policy}
 use Rattle.policy_state.specs.Step.{changed}
 use Rattle.policy_state.specs.declared.command.Command.{Command}
 use Rattle.net_control.specs.Applied.{IsAnswered}
+use Rattle.net_control.specs.Bounds.{KeepsLimit}
 use Rattle.net_control.specs.Causes.{HasCause}
 use Rattle.net_control.specs.Moments.{KeepsLockdown, KeepsPolicy, SendsByPolicy}
 use Rattle.net_control.specs.View.{ControllerView, IsKept}
@@ -46,6 +47,7 @@ pub record IsCommanded (command : Command) (n : ℕ) (s e : Standing) (turns : L
   pub what : Said
   pub answered : IsAnswered a command s.controller e.controller s.kernel e.kernel
   pub caused : HasCause a command s.controller e.controller s.kernel e.kernel
+  pub bounded : KeepsLimit s.controller.state command s.kernel e.kernel
   pub says : Says what a
   pub turns_are : turns ≡ turn_of n what e ∷ []
   pub text : out ≡ numbered n (answer_text a)

@@ -3,15 +3,19 @@ use Rattle.net_control.specs.Applied.{IsTaken}
 use Rattle.policy_state.proofs.Goodness.{good-changed}
 use Rattle.policy_state.specs.Step.{changed}
 use Rattle.rule_compile.specs.Asked.{MayStep, carried}
+use Rattle.net_control.proofs.Bounding.{keeps_limit}
 use Rattle.net_control.proofs.Causing.{has_cause}
 use Rattle.net_control.proofs.Policed.{accepted, answered, by_policy, locked, sends}
 use Rattle.net_control.proofs.controller.Controller.apply.Goals as goal
 
 pub returns-clause-sends : goal.returns-clause-sends
-returns-clause-sends g c = sends c.answer.new.self (g.K.Kernel.seen c.answer.new.kernel) (λ s k packet. c.table_means_policy.ensures s k packet) c.answer.ensures.kept
+returns-clause-sends g c = sends c.answer.new.self (g.K.Kernel.seen c.answer.new.kernel) (λ s k packet. c.table_means_policy.ensures s k packet) (λ s packet. c.barred_stays_in.ensures s packet) c.answer.ensures.kept
 
 pub returns-clause-caused : goal.returns-clause-caused
 returns-clause-caused g c = has_cause c.answer.result c.args.command.now c.args.self.now c.answer.new.self (g.K.Kernel.seen c.args.kernel.now) (g.K.Kernel.seen c.answer.new.kernel) c.answer.ensures.answer
+
+pub returns-clause-bounded : goal.returns-clause-bounded
+returns-clause-bounded g c = keeps_limit c.answer.result c.args.command.now c.args.self.now c.answer.new.self (g.K.Kernel.seen c.args.kernel.now) (g.K.Kernel.seen c.answer.new.kernel) c.answer.ensures.answer
 
 pub returns-clause-moments : goal.returns-clause-moments
 returns-clause-moments g c running =

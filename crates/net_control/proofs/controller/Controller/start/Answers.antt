@@ -15,7 +15,7 @@ use Rattle.std.specs.Prelude.{length}
 use Rattle.net_control.proofs.controller.Controller.start.Goals as goal
 
 pub returns-clause-sends : goal.returns-clause-sends
-returns-clause-sends g c = started_sends c.ask_start.result (g.K.Kernel.seen c.ask_start.new.kernel) (λ s k packet. c.table_means_policy.ensures s k packet) c.ask_start.ensures.kept
+returns-clause-sends g c = started_sends c.ask_start.result (g.K.Kernel.seen c.ask_start.new.kernel) (λ s k packet. c.table_means_policy.ensures s k packet) (λ s packet. c.barred_stays_in.ensures s packet) c.ask_start.ensures.kept
 
 pub returns-clause-caused : goal.returns-clause-caused
 returns-clause-caused g c = has_start_cause c.ask_start.result (g.K.Kernel.seen c.args.kernel.now) (g.K.Kernel.seen c.ask_start.new.kernel) c.ask_start.ensures.answer
