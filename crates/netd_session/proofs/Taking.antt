@@ -18,7 +18,7 @@ use Rattle.uid_ranges.specs.declared.range.Uid.{Uid}
 use Rattle.netd_session.specs.Offers.{Written}
 use Rattle.netd_session.specs.Went.{went_text}
 use Rattle.netd_session.specs.declared.turn.Said.{Said}
-use Rattle.netd_session.specs.Talks.{Answers, Tells, IsBad, IsTaken, IsToldBad, OffersBad, Takes}
+use Rattle.netd_session.specs.Talks.{Answers, IsBad, IsTaken, IsToldBad, OffersBad, Takes}
 use Rattle.netd_session.specs.Turns.{Standing, turn_of, IsTold, IsAnsweredLine}
 use Rattle.netd_session.specs.declared.turn.Turn.{Turn}
 use Rattle.netd_session.specs.declared.status.Status.{Status}
@@ -53,15 +53,16 @@ pub with_text : {result : Option Status} {text same : List ℕ} {n : ℕ} {s e :
 with_text {result} {text} {same} {n} {s} {e} {turns} {after} {old} {new} is takes = subst (λ (t : List ℕ). Takes result t n s e turns after old new) is takes
 
 -- a line that changes nothing was told, or memory was wanting
-pub answers-told : (l : Line) (result : Result (Unit {0}) AllocError) (what : Said) (text : List ℕ) (n : ℕ) (s e : Standing) (turns after : List Turn) (out : List ℕ)
-    → ((more : List Turn) → IsTold what text n s e more out → IsAnsweredLine l n s e more out)
-    → e ≡ s → Tells result what text n s turns after out → Answers result l n s e turns after out
-answers-told l (Ok u) what text n s e turns after out as_line same told = (
+pub told : (l : Line) (result : Result (Unit {0}) AllocError) (what : Said) (text : List ℕ) (n : ℕ) (s e : Standing) (turns after : List Turn) (out : List ℕ)
+    → ((more : List Turn) → IsTold what text n s e more out → IsAnsweredLine l n s e more out) → e ≡ s
+    → OnOk result (after ≡ turns ++ turn_of n what s ∷ []) → OnOk result (out ≡ numbered n text) → OnErr result (after ≡ turns)
+    → Answers result l n s e turns after out
+told l (Ok u) what text n s e turns after out as_line same grew says kept = (
   turn_of n what s ∷ [],
-  told.0,
-  as_line (turn_of n what s ∷ []) (same, ap (λ (x : Standing). turn_of n what x ∷ []) (sym same), told.1),
+  grew,
+  as_line (turn_of n what s ∷ []) (same, ap (λ (x : Standing). turn_of n what x ∷ []) (sym same), says),
 )
-answers-told l (Err f) what text n s e turns after out as_line same told = (same, told)
+told l (Err f) what text n s e turns after out as_line same grew says kept = (same, kept)
 
 -- a bad line was told, or a front of what is said of it
 pub bad_line : (result : Status) (text : List ℕ) (n : ℕ) (s e : Standing) (turns after : List Turn) (column : ℕ) (old new : Written)

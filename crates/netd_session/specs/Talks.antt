@@ -9,7 +9,7 @@ use Rattle.script_reader.specs.Lines.{Spells}
 use Rattle.script_reader.specs.declared.line.Line.{Line}
 use Rattle.netd_session.specs.Offers.{Written}
 use Rattle.turn_text.specs.Texts.{numbered, bad_text}
-use Rattle.netd_session.specs.Turns.{Standing, turn_of, IsAnsweredLine, Goes}
+use Rattle.netd_session.specs.Turns.{Standing, IsAnsweredLine, Goes}
 use Rattle.netd_session.specs.declared.turn.Said.{Said}
 use Rattle.netd_session.specs.declared.turn.Turn.{Turn}
 use Rattle.netd_session.specs.declared.status.Status.{Status}
@@ -22,11 +22,6 @@ standing controller kernel = record { controller = controller; kernel = kernel }
 abbrev pub Answers : Result (Unit {0}) AllocError → Line → ℕ → (s e : Standing) → (turns after : List Turn) → List ℕ → Type 0
 Answers (Ok u) line n s e turns after out = (more : List Turn) × (after ≡ turns ++ more) × IsAnsweredLine line n s e more out
 Answers (Err f) line n s e turns after out = (e ≡ s) × (after ≡ turns)
-
--- a line that changes nothing was told, with this turn and this text, or memory was wanting
-abbrev pub Tells : Result (Unit {0}) AllocError → Said → List ℕ → ℕ → Standing → (turns after : List Turn) → List ℕ → Type 0
-Tells (Ok u) what text n s turns after out = (after ≡ turns ++ turn_of n what s ∷ []) × (out ≡ numbered n text)
-Tells (Err f) what text n s turns after out = after ≡ turns
 
 -- the text is none of the grammar, from this column on; nothing changes
 pub record IsBad (text : List ℕ) (n : ℕ) (s e : Standing) (more : List Turn) (out : List ℕ) : Type 0 where

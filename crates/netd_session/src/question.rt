@@ -9,8 +9,8 @@ ghost use Rattle.policy_meaning.specs.Policy.{policy};
 ghost use Rattle.report_text.specs.NetworkTexts.{networks_text};
 ghost use Rattle.report_text.specs.RouteTexts.{routes_text};
 ghost use Rattle.report_text.specs.RuleTexts.{rules_text};
-ghost use Rattle.turn_text.specs.Texts.{refused_text};
-ghost use Rattle.netd_session.specs.Talks.{Answers, Tells, standing};
+ghost use Rattle.turn_text.specs.Texts.{numbered, refused_text};
+ghost use Rattle.netd_session.specs.Talks.{Answers, standing};
 ghost use Rattle.netd_session.specs.Turns.{turn_of};
 ghost use Rattle.netd_session.specs.Went.{went_text};
 
@@ -51,9 +51,9 @@ impl Talk {
         requires kept { IsKept self.old.controller (K.seen kernel.now) }
         requires runs { self.old.controller.halted ≡ None }
         requires empty { self.old.answer.items ≡ [] }
-        ensures tells { Tells result (Said.Went packet.now.mark (policy self.old.controller.state packet.now))
-            (went_text self.old.controller.state packet.now.mark (policy self.old.controller.state packet.now) (trail_of (state_of (K.seen kernel.now)) packet.now))
-            number (standing self.old.controller (K.seen kernel.now)) self.old.turns.items self.new.turns.items self.new.answer.items }
+        ensures ok { OnOk result (self.new.turns.items ≡ self.old.turns.items ++ turn_of number (Said.Went packet.now.mark (policy self.old.controller.state packet.now)) (standing self.old.controller (K.seen kernel.now)) ∷ []) }
+        ensures text { OnOk result (self.new.answer.items ≡ numbered number (went_text self.old.controller.state packet.now.mark (policy self.old.controller.state packet.now) (trail_of (state_of (K.seen kernel.now)) packet.now))) }
+        ensures err { OnErr result (self.new.turns.items ≡ self.old.turns.items) }
         ensures controller { self.new.controller ≡ self.old.controller }
     {
         let said = tell_packet(
@@ -69,8 +69,9 @@ impl Talk {
 
     fn answer_unknown_link<K: Kernel>(&mut self, number: u32, kernel: &K) -> Result<(), AllocError>
         requires empty { self.old.answer.items ≡ [] }
-        ensures tells { Tells result (Said.Refused Code.NoDevice) (refused_text Code.NoDevice)
-            number (standing self.old.controller (K.seen kernel.now)) self.old.turns.items self.new.turns.items self.new.answer.items }
+        ensures ok { OnOk result (self.new.turns.items ≡ self.old.turns.items ++ turn_of number (Said.Refused Code.NoDevice) (standing self.old.controller (K.seen kernel.now)) ∷ []) }
+        ensures text { OnOk result (self.new.answer.items ≡ numbered number (refused_text Code.NoDevice)) }
+        ensures err { OnErr result (self.new.turns.items ≡ self.old.turns.items) }
         ensures controller { self.new.controller ≡ self.old.controller }
     {
         let code = Code::NoDevice;
@@ -116,8 +117,9 @@ impl Talk {
         kernel: &K,
     ) -> Result<(), AllocError>
         requires empty { self.old.answer.items ≡ [] }
-        ensures tells { Tells result Said.Shown (rules_text self.old.controller.state (rules_of (state_of (K.seen kernel.now)) family))
-            number (standing self.old.controller (K.seen kernel.now)) self.old.turns.items self.new.turns.items self.new.answer.items }
+        ensures ok { OnOk result (self.new.turns.items ≡ self.old.turns.items ++ turn_of number Said.Shown (standing self.old.controller (K.seen kernel.now)) ∷ []) }
+        ensures text { OnOk result (self.new.answer.items ≡ numbered number (rules_text self.old.controller.state (rules_of (state_of (K.seen kernel.now)) family))) }
+        ensures err { OnErr result (self.new.turns.items ≡ self.old.turns.items) }
         ensures controller { self.new.controller ≡ self.old.controller }
     {
         tell_rules(number, family, &self.controller, kernel, &mut self.answer)?;
@@ -131,8 +133,9 @@ impl Talk {
         kernel: &K,
     ) -> Result<(), AllocError>
         requires empty { self.old.answer.items ≡ [] }
-        ensures tells { Tells result Said.Shown (routes_text self.old.controller.state (routes_of table (state_of (K.seen kernel.now)).tables))
-            number (standing self.old.controller (K.seen kernel.now)) self.old.turns.items self.new.turns.items self.new.answer.items }
+        ensures ok { OnOk result (self.new.turns.items ≡ self.old.turns.items ++ turn_of number Said.Shown (standing self.old.controller (K.seen kernel.now)) ∷ []) }
+        ensures text { OnOk result (self.new.answer.items ≡ numbered number (routes_text self.old.controller.state (routes_of table (state_of (K.seen kernel.now)).tables))) }
+        ensures err { OnErr result (self.new.turns.items ≡ self.old.turns.items) }
         ensures controller { self.new.controller ≡ self.old.controller }
     {
         tell_table(number, table, &self.controller, kernel, &mut self.answer)?;
@@ -141,8 +144,9 @@ impl Talk {
 
     fn show_networks<K: Kernel>(&mut self, number: u32, kernel: &K) -> Result<(), AllocError>
         requires empty { self.old.answer.items ≡ [] }
-        ensures tells { Tells result Said.Shown (networks_text self.old.controller.state)
-            number (standing self.old.controller (K.seen kernel.now)) self.old.turns.items self.new.turns.items self.new.answer.items }
+        ensures ok { OnOk result (self.new.turns.items ≡ self.old.turns.items ++ turn_of number Said.Shown (standing self.old.controller (K.seen kernel.now)) ∷ []) }
+        ensures text { OnOk result (self.new.answer.items ≡ numbered number (networks_text self.old.controller.state)) }
+        ensures err { OnErr result (self.new.turns.items ≡ self.old.turns.items) }
         ensures controller { self.new.controller ≡ self.old.controller }
     {
         tell_networks(number, &self.controller, &mut self.answer)?;
