@@ -11,8 +11,8 @@ use Rattle.prefixes.specs.declared.prefix.Prefix.{Prefix}
 use Rattle.uid_ranges.specs.declared.range.Uid.{Uid}
 use Rattle.uid_ranges.specs.declared.range.UidRange.{UidRange}
 
--- What a decimal number counts: the index of a link, the id of a network that lines make and fill, any id of a network,
--- or a table of routes.
+-- What a decimal number is for: the index of a link, the id of a network that lines make and fill, the id of any network,
+-- or the number of a table.
 pub data Count : Type 0 where
   index : Count
   net : Count
