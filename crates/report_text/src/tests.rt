@@ -4,13 +4,24 @@ use crate::table::write_route;
 use crate::trail::write_step;
 use fwmark::Permission;
 use kernel_model::Step;
+use net_names::Name;
 use networks::{Kind, LinkRoutes, Links, Network};
-use policy_state::State;
+use policy_state::{Command, State};
 use prefixes::{Addr, Out, Prefix, Route};
 use rule_match::{Action, Rule, Verdict};
 use std::alloc::Global;
 use std::test::Fail;
 use uid_ranges::{RangeList, Uid, UidRange};
+
+// The link `wlan0` of index 3, which is the interface of network 100.
+fn with_wlan0(alloc: Global) -> Result<State, Fail> {
+    let name = Name::from_bytes(b"wlan0").ok_or("a name")?;
+    let net = 100;
+    let permission = Permission::Nothing;
+    let linked = State::start(alloc)?.step(&Command::LinkAdd { name, index: 3 })?;
+    let created = linked.step(&Command::CreatePhysical { net, permission })?;
+    Ok(created.step(&Command::InterfaceAdd { net, name })?)
+}
 
 fn verdict_text(alloc: Global, verdict: &Verdict) -> Result<Vec<u8>, Fail> {
     let state = State::start(alloc)?;
@@ -215,14 +226,27 @@ fn virtual_networks(rt: HostRuntime) -> Result<(), Fail> {
 }
 
 #[test]
-fn networks_at_the_start(rt: HostRuntime) -> Result<(), Fail> {
+fn names_of_links(rt: HostRuntime) -> Result<(), Fail> {
     let alloc = rt.alloc();
-    let state = State::start(alloc)?;
+    let state = with_wlan0(alloc)?;
     let mut text = Vec::new(alloc);
     write_networks(&state, &mut text)?;
     assert_eq!(rt;
         text.as_slice(),
-        b"1 networks\n  99 local interfaces -\n".as_slice()
+        b"2 networks\n  99 local interfaces -\n  100 physical none interfaces wlan0\n".as_slice()
     );
+    let link = 3;
+    let gateway = Some(Addr::V4(0xc0a8_0101));
+    let prefix = Prefix::new(Addr::V4(0), 0).ok_or("a prefix")?;
+    let out = Out::Dev { link, gateway };
+    let mut text = Vec::new(alloc);
+    write_route(&state, &Route { prefix, out }, &mut text)?;
+    assert_eq!(rt;
+        text.as_slice(),
+        b"0.0.0.0/0 via 192.168.1.1 dev wlan0".as_slice()
+    );
+    let mut text = Vec::new(alloc);
+    write_verdict(&state, &Verdict::Out { link, gateway }, &mut text)?;
+    assert_eq!(rt; text.as_slice(), b"out wlan0 via 192.168.1.1".as_slice());
     Ok(())
 }
