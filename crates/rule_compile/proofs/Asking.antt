@@ -1,9 +1,9 @@
 -- What is asked of a kernel that stands for a state can be asked.
-use Rattle.std.proofs.Common.{◌≡◌, ◌≤◌, ◌∷◌, [], ◌++◌, ◌&&◌, List, Bool, true, false, not, refl, sym, ◌∙◌, ap, subst, inl, inr, reverse, arith, ℕ, ap₂}
+use Rattle.std.proofs.Common.{Option, Some, None, ◌≡◌, ◌≤◌, ◌∷◌, [], ◌++◌, ◌&&◌, List, Bool, true, false, not, refl, sym, ◌∙◌, ap, subst, inl, inr, reverse, arith, ℕ, ap₂}
 use Rattle.std.specs.Prelude.{◌⊎◌}
 use Rattle.std.specs.List.{AllByRecursion}
 use Rattle.std.proofs.lemmas.Bool.{cases_Bool, false≢true, false_from_ne_true}
-use Rattle.std.proofs.lemmas.List.{reverse-append}
+use Rattle.std.proofs.lemmas.List.{reverse-append, append-nil}
 use Rattle.fib_table.specs.Table.{has_key, has_route}
 use Rattle.prefixes.specs.Addr.{same_family}
 use Rattle.prefixes.specs.declared.route.Route.{Route}
@@ -18,20 +18,21 @@ use Rattle.rule_match.specs.Rule.{same_rule}
 use Rattle.rule_match.specs.declared.rule.Rule.{Rule}
 use Rattle.rule_match.proofs.Sames.{same_rule-true, same_rule-refl}
 use Rattle.kernel_model.specs.Kind.{rule_kind}
-use Rattle.kernel_model.specs.Same.{same_request}
+use Rattle.kernel_model.specs.PlanView.{PlanView}
+use Rattle.kernel_model.specs.Same.{same_request, Distinct}
 use Rattle.kernel_model.specs.State.{KernelState, rules_of, own_rule, is_absent, is_present, is_route}
-use Rattle.kernel_model.specs.Switch.{twins, additions, deletions}
+use Rattle.kernel_model.specs.Switch.{twins, additions, deletions, requests_of}
 use Rattle.kernel_model.specs.declared.request.Request.{Request}
 use Rattle.kernel_model.specs.declared.request.Request.TheVariants as req
 use Rattle.kernel_model.proofs.Alls.{all-append, all-reverse}
-use Rattle.policy_state.specs.Step.{changed}
-use Rattle.policy_state.specs.Table.{rule_table}
-use Rattle.policy_state.specs.View.{StateView}
+use Rattle.policy_state.specs.Step.{changed, route_of}
+use Rattle.policy_state.specs.Table.{rule_table, link_table}
+use Rattle.policy_state.specs.View.{StateView, link_named}
 use Rattle.policy_state.specs.declared.command.Command.{Command}
+use Rattle.policy_state.specs.declared.command.Command.TheVariants as command
 use Rattle.policy_state.proofs.Goodness.{good-changed}
-use Rattle.rule_compile.specs.Asked.{asked_adds, asked_deletes, MayStep}
-use Rattle.rule_compile.specs.Distinct.{Distinct}
-use Rattle.rule_compile.proofs.Asks.{Asks, Rules, Comes, Goes}
+use Rattle.rule_compile.specs.Asked.{routes_come, asked_adds, asked_deletes, MayStep}
+use Rattle.rule_compile.proofs.Asks.{Asks, Rules, Comes, Goes, asked-come}
 use Rattle.rule_compile.proofs.Tables.{table-behind_own, table-once}
 
 -- what holds of the rules of a list in either family holds of what asks for them
@@ -65,12 +66,12 @@ not_own rules x behind there = false_from_ne_true (same_rule x own_rule) (λ sam
     let own : x.priority ≡ 0 = ap (λ (r : Rule). r.priority) (same_rule-true x own_rule same) in
     omega (arith, above, own))
 
-module _ (k : KernelState) (s : StateView) (command : Command) (may : MayStep k s command) where
+module _ (k : KernelState) (s : StateView) (c : Command) (may : MayStep k s c) where
   abbrev old : List Rule
   old = rule_table s
 
   abbrev new : List Rule
-  new = rule_table (changed s command)
+  new = rule_table (changed s c)
 
   -- a kernel that stands for a table has the rules of the table behind its own
   kernel-has : (f : Family) (x : Rule) → same_rule x own_rule ≡ false → has rule_kind (rules_of k f) x ≡ has rule_kind old x
@@ -82,7 +83,7 @@ module _ (k : KernelState) (s : StateView) (command : Command) (may : MayStep k 
       each : (f : Family) (x : Rule) → has rule_kind (beyond rule_kind old new) x ≡ true → is_absent k (req.Rule f x) ≡ true
       each f x h =
           let came : IsBeyond old new x = is_beyond old new x h in
-          ap not (kernel-has f x (not_own new x (table-behind_own (changed s command)) came.there) ∙ came.lacking)
+          ap not (kernel-has f x (not_own new x (table-behind_own (changed s c)) came.there) ∙ came.lacking)
 
   rules-present : AllByRecursion (λ q. is_present k q ≡ true) (deletions old new [])
   rules-present =
@@ -100,22 +101,44 @@ module _ (k : KernelState) (s : StateView) (command : Command) (may : MayStep k 
   abbrev Present : List Request → Type 0
   Present qs = AllByRecursion (λ q. is_present k q ≡ true) qs
 
-  pub adds-absent : Asks s command → Absent (asked_adds s command)
+  pub adds-absent : Asks s c → Absent (asked_adds s c)
   adds-absent (Rules it) = subst Absent (sym it.adds) rules-absent
   adds-absent (Comes it) = subst Absent (sym it.adds) (ap (λ rs. not (has_key rs it.route)) (may.stands.in_table it.table it.not_own) ∙ ap not it.absent, tt)
   adds-absent (Goes it) = subst Absent (sym it.adds) tt
 
-  pub deletes-present : Asks s command → Present (asked_deletes s command)
+  pub deletes-present : Asks s c → Present (asked_deletes s c)
   deletes-present (Rules it) = subst Present (sym it.deletes) rules-present
   deletes-present (Comes it) = subst Present (sym it.deletes) tt
   deletes-present (Goes it) = subst Present (sym it.deletes) (ap (λ rs. has_route rs it.route) (may.stands.in_table it.table it.not_own) ∙ it.there, tt)
 
 -- rules alone, or one route
-pub one_kind : (s : StateView) (command : Command) → Asks s command
-    → AllByRecursion (λ q. is_route q ≡ false) (asked_adds s command) ⊎ ((n : ℕ) × (route : Route) × (asked_adds s command ≡ req.Route n route ∷ []))
-one_kind s command (Rules it) = inl (subst (AllByRecursion (λ q. is_route q ≡ false)) (sym it.adds) (twins-rules (beyond rule_kind (rule_table s) (rule_table (changed s command)))))
-one_kind s command (Comes it) = inr (it.table, it.route, it.adds)
-one_kind s command (Goes it) = inl (subst (AllByRecursion (λ q. is_route q ≡ false)) (sym it.adds) tt)
+
+abbrev AreOfOneKind : List Request → Type 0
+AreOfOneKind qs = AllByRecursion (λ q. is_route q ≡ false) qs ⊎ ((n : ℕ) × (route : Route) × (qs ≡ req.Route n route ∷ []))
+
+rules_alone : (s : StateView) (c : Command) → routes_come s c ≡ [] → AreOfOneKind (asked_adds s c)
+rules_alone s c none =
+    let rules : List Request = additions (rule_table s) (rule_table (changed s c)) in
+    inl (subst (AllByRecursion (λ q. is_route q ≡ false)) (sym (ap (λ rs. rules ++ requests_of rs) none ∙ append-nil rules))
+    (twins-rules (beyond rule_kind (rule_table s) (rule_table (changed s c)))))
+
+pub one_kind : (s : StateView) (c : Command) → AreOfOneKind (asked_adds s c)
+one_kind s (command.LinkAdd name index) = rules_alone s (command.LinkAdd name index) refl
+one_kind s (command.LinkRemove name) = rules_alone s (command.LinkRemove name) refl
+one_kind s (command.CreatePhysical net permission) = rules_alone s (command.CreatePhysical net permission) refl
+one_kind s (command.InterfaceAdd net name) = rules_alone s (command.InterfaceAdd net name) refl
+one_kind s (command.RouteAdd net name prefix w) = by (link_named s name) refl
+  where
+    come : (o : Option ℕ) → List (ℕ × Route)
+    come o = elim o as (λ _. List (ℕ × Route)) [ Some i ↦ (link_table i, route_of i prefix w) ∷ [] | None ↦ [] ]
+
+    by : (o : Option ℕ) → link_named s name ≡ o → AreOfOneKind (asked_adds s (command.RouteAdd net name prefix w))
+    by None is = rules_alone s (command.RouteAdd net name prefix w) (ap come is)
+    by (Some link) is = inr (link_table link, route_of link prefix w, ap (λ (p : PlanView). p.adds) (asked-come s net name prefix w) ∙ ap (λ o. requests_of (come o)) is)
+one_kind s (command.RouteRemove net name prefix special) = rules_alone s (command.RouteRemove net name prefix special) refl
+one_kind s (command.PermissionNetwork net permission) = rules_alone s (command.PermissionNetwork net permission) refl
+one_kind s (command.LockdownAdd range) = rules_alone s (command.LockdownAdd range) refl
+one_kind s (command.LockdownRemove range) = rules_alone s (command.LockdownRemove range) refl
 
 -- requests that are apart
 
@@ -161,14 +184,14 @@ distinct-reversed (r ∷ rs) once =
     subst Distinct (sym (reverse-append (req.Rule family.V4 r ∷ req.Rule family.V6 r ∷ []) (twins rs)))
     (distinct-append (reverse (twins rs)) pair (distinct-reversed rs once.1) ((refl, tt), (tt, tt)) apart)
 
-rules-distinct : (k : KernelState) (s : StateView) (command : Command) → MayStep k s command
-    → Distinct (additions (rule_table s) (rule_table (changed s command)) ++ deletions (rule_table s) (rule_table (changed s command)) [])
-rules-distinct k s command may =
+rules-distinct : (k : KernelState) (s : StateView) (c : Command) → MayStep k s c
+    → Distinct (additions (rule_table s) (rule_table (changed s c)) ++ deletions (rule_table s) (rule_table (changed s c)) [])
+rules-distinct k s c may =
     let old : List Rule = rule_table s in
-    let new : List Rule = rule_table (changed s command) in
+    let new : List Rule = rule_table (changed s c) in
     let came : List Rule = beyond rule_kind old new in
     let went : List Rule = beyond rule_kind new old in
-    let new_once : HasEachOnce rule_kind new = table-once (changed s command) (good-changed s command may.good may.fits may.accepted) in
+    let new_once : HasEachOnce rule_kind new = table-once (changed s c) (good-changed s c may.good may.fits may.accepted) in
     let deletes : Distinct (reverse (twins went) ++ []) =
     distinct-append (reverse (twins went)) [] (distinct-reversed went (HasEachOnce-filter rule_kind (λ x. not (has rule_kind new x)) old (table-once s may.good))) tt
     (all-reverse (λ q. IsApart q []) (twins went) (all-twins (λ q. IsApart q []) went (λ f x there. tt))) in
@@ -179,7 +202,7 @@ rules-distinct k s command may =
     (all-twins (λ p. same_request (req.Rule f x) p ≡ false) went (λ g y in_went.
     apart_rules f g x y (lacked old x y (is_beyond old new x in_came).lacking (is_beyond new old y in_went).there)))) tt))
 
-pub asked-distinct : (k : KernelState) (s : StateView) (command : Command) → MayStep k s command → Asks s command → Distinct (asked_adds s command ++ asked_deletes s command)
-asked-distinct k s command may (Rules it) = subst Distinct (ap₂ (λ (adds deletes : List Request). adds ++ deletes) (sym it.adds) (sym it.deletes)) (rules-distinct k s command may)
-asked-distinct k s command may (Comes it) = subst Distinct (ap₂ (λ (adds deletes : List Request). adds ++ deletes) (sym it.adds) (sym it.deletes)) (tt, tt)
-asked-distinct k s command may (Goes it) = subst Distinct (ap₂ (λ (adds deletes : List Request). adds ++ deletes) (sym it.adds) (sym it.deletes)) (tt, tt)
+pub asked-distinct : (k : KernelState) (s : StateView) (c : Command) → MayStep k s c → Asks s c → Distinct (asked_adds s c ++ asked_deletes s c)
+asked-distinct k s c may (Rules it) = subst Distinct (ap₂ (λ (adds deletes : List Request). adds ++ deletes) (sym it.adds) (sym it.deletes)) (rules-distinct k s c may)
+asked-distinct k s c may (Comes it) = subst Distinct (ap₂ (λ (adds deletes : List Request). adds ++ deletes) (sym it.adds) (sym it.deletes)) (tt, tt)
+asked-distinct k s c may (Goes it) = subst Distinct (ap₂ (λ (adds deletes : List Request). adds ++ deletes) (sym it.adds) (sym it.deletes)) (tt, tt)

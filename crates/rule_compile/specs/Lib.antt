@@ -1,4 +1,3 @@
 pub mod Middles
 pub mod Rows
 pub mod Asked
-pub mod Distinct

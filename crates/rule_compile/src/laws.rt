@@ -3,6 +3,7 @@
 ghost use Rattle.std.specs.Prelude.{◌≡◌, ◌⊎◌, ◌++◌, ◌∷◌, [], ℕ, List, Some, true, false, length, slice_get, take};
 ghost use Rattle.std.specs.List.{AllByRecursion};
 ghost use Rattle.kernel_model.specs.Journal.{entry, replay_from};
+ghost use Rattle.kernel_model.specs.Same.{Distinct};
 ghost use Rattle.kernel_model.specs.Segment.{done, undone, IsSegment};
 ghost use Rattle.kernel_model.specs.Stands.{Stands};
 ghost use Rattle.kernel_model.specs.State.{KernelState, start as kernel_start, is_absent, is_present, is_route};
@@ -18,7 +19,6 @@ ghost use Rattle.policy_state.specs.Table.{rule_table, start_rules, route_list};
 ghost use Rattle.policy_state.specs.View.{StateView, IsGood, start};
 ghost use Rattle.policy_state.specs.declared.command.Command.{Command};
 ghost use Rattle.rule_compile.specs.Asked.{asked_adds, asked_deletes, carried, started, MayStep};
-ghost use Rattle.rule_compile.specs.Distinct.{Distinct};
 ghost use Rattle.rule_law.specs.Plans.{GoesOver, GoesOverAndBack};
 ghost use Rattle.rule_match.specs.declared.packet.Packet.{Packet};
 
@@ -35,7 +35,7 @@ pub fn tables_are_lawful()
 /// What is asked can be asked: additions are of rules, or one of a route and no other; they are absent, deletions are
 /// present, and nothing is asked twice.
 pub fn requests_can_be_asked()
-    ensures one_kind { (k : KernelState) (s : StateView) (command : Command) → MayStep k s command
+    ensures one_kind { (s : StateView) (command : Command)
         → AllByRecursion (λ q. is_route q ≡ false) (asked_adds s command)
         ⊎ ((n : ℕ) × (route : Route) × (asked_adds s command ≡ req.Route n route ∷ [])) }
     ensures absent { (k : KernelState) (s : StateView) (command : Command) → MayStep k s command

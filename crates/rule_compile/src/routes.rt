@@ -1,6 +1,8 @@
 //! The route that a command adds or takes out, as a request.
 ghost use Rattle.std.specs.Prelude.{◌≡◌, ℕ, IfOk};
 ghost use Rattle.kernel_model.specs.Switch.{requests_of};
+ghost use Rattle.kernel_model.specs.declared.request.Request.TheVariants as req;
+ghost use Rattle.policy_state.specs.Table.{link_table};
 ghost use Rattle.policy_state.specs.Step.{out_of, key_of, is_keyed_by};
 ghost use Rattle.policy_state.specs.declared.command.Command.TheVariants.{RouteAdd, RouteRemove};
 ghost use Rattle.rule_compile.specs.Asked.{routes_come, routes_gone};
@@ -51,6 +53,16 @@ fn is_keyed_by(route: &LinkRoute, link: u16, key: &Route) -> bool
     route.link == link && same_key(&route.route, key)
 }
 
+/// What asks for a route in the table of the link.
+fn request_for(link: u16, route: Route) -> Request
+    ensures { result ≡ req.Route (link_table link) route }
+{
+    Request::Route {
+        table: link_table(link),
+        route,
+    }
+}
+
 /// What asks for the route that a command adds, with the table of the link of this name.
 pub(crate) fn route_that_comes(
     alloc: Global,
@@ -67,10 +79,7 @@ pub(crate) fn route_that_comes(
             prefix,
             out: out_of(link, way),
         };
-        requests.push(Request::Route {
-            table: link_table(link),
-            route,
-        })?;
+        requests.push(request_for(link, route))?;
     }
     Ok(requests)
 }
@@ -87,10 +96,7 @@ fn requests_by(
     let mut requests = Vec::new(alloc);
     for route in routes {
         if is_keyed_by(route, link, key) {
-            requests.push(Request::Route {
-                table: link_table(link),
-                route: route.route,
-            })?;
+            requests.push(request_for(link, route.route))?;
         }
     }
     Ok(requests)

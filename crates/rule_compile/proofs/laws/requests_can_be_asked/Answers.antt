@@ -3,7 +3,7 @@ use Rattle.rule_compile.proofs.Asks.{asks}
 use Rattle.rule_compile.proofs.laws.requests_can_be_asked.Goals as goal
 
 pub returns-clause-one_kind : goal.returns-clause-one_kind
-returns-clause-one_kind c = λ k s command may. one_kind s command (asks s command may.good may.accepted)
+returns-clause-one_kind c = one_kind
 
 pub returns-clause-absent : goal.returns-clause-absent
 returns-clause-absent c = λ k s command may. adds-absent k s command may (asks s command may.good may.accepted)

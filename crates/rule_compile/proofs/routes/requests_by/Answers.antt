@@ -35,7 +35,7 @@ loop-route-preserved c = elim c.if-is_keyed_by.branch [
   | then-is_keyed_by+in_ok-push w ↦
       rw w.requests-is (one_more c.args.link c.args.key.now c.args.routes.now c.loop-route.route-index c.route-item.result true _ _ c.loop-route-test.true c.route-item.is
       (sym c.is_keyed_by.ensures ∙ w.if-is_keyed_by.true) c.loop-route.invariant
-      (w.in_ok-push.ensures.items ∙ ap (λ t. c.loop-route.requests.items ++ req.Route t c.route-item.result.route ∷ []) w.link_table.ensures))
+      (w.in_ok-push.ensures.items ∙ ap (λ q. c.loop-route.requests.items ++ q ∷ []) w.request_for.ensures))
   | else-is_keyed_by w ↦
       rw w.requests-is (one_more c.args.link c.args.key.now c.args.routes.now c.loop-route.route-index c.route-item.result false _ _ c.loop-route-test.true c.route-item.is
       (sym c.is_keyed_by.ensures ∙ w.if-is_keyed_by.false) c.loop-route.invariant (sym (append-nil _)))
