@@ -12,55 +12,67 @@ use std::test::Fail;
 use uid_ranges::{Uid, UidRange};
 
 // from all lookup 255
-const OWN: Rule = Rule {
-    priority: 0,
-    mark: 0,
-    mask: 0,
-    incoming: None,
-    outgoing: None,
-    uids: None,
-    action: Action::Table(255),
-};
+fn own() -> Rule {
+    Rule {
+        priority: 0,
+        mark: 0,
+        mask: 0,
+        incoming: None,
+        outgoing: None,
+        uids: None,
+        action: Action::Table(255),
+    }
+}
 
 // from all fwmark 0x0/0x10000 lookup 97
-const LOCAL: Rule = Rule {
-    priority: 17000,
-    mask: 0x10000,
-    action: Action::Table(97),
-    ..OWN
-};
+fn local() -> Rule {
+    Rule {
+        priority: 17000,
+        mask: 0x10000,
+        action: Action::Table(97),
+        ..own()
+    }
+}
 
 // from all fwmark 0x0/0x10000 prohibit
-const BARRED: Rule = Rule {
-    action: Action::Prohibit,
-    ..LOCAL
-};
+fn barred() -> Rule {
+    Rule {
+        action: Action::Prohibit,
+        ..local()
+    }
+}
 
 // from all prohibit
-const LAST: Rule = Rule {
-    priority: 32000,
-    action: Action::Prohibit,
-    ..OWN
-};
+fn last() -> Rule {
+    Rule {
+        priority: 32000,
+        action: Action::Prohibit,
+        ..own()
+    }
+}
 
 // from all fwmark 0x10064/0x1ffff iif lo lookup 1005
-const CHOSEN: Rule = Rule {
-    priority: 13000,
-    mark: 0x10064,
-    mask: 0x1ffff,
-    incoming: Some(1),
-    action: Action::Table(1005),
-    ..OWN
-};
+fn chosen() -> Rule {
+    Rule {
+        priority: 13000,
+        mark: 0x10064,
+        mask: 0x1ffff,
+        incoming: Some(1),
+        action: Action::Table(1005),
+        ..own()
+    }
+}
 
 // from all iif lo oif the link 5 lookup 1005
-const BOUND: Rule = Rule {
-    priority: 14000,
-    incoming: Some(1),
-    outgoing: Some(5),
-    action: Action::Table(1005),
-    ..OWN
-};
+fn bound() -> Rule {
+    Rule {
+        priority: 14000,
+        incoming: Some(1),
+        outgoing: Some(5),
+        action: Action::Table(1005),
+        ..own()
+    }
+}
 
 // from all fwmark 0x0/0x20000 iif lo uidrange 10000-19999 prohibit
 fn locked() -> Rule {
@@ -74,95 +86,115 @@ fn locked() -> Rule {
         incoming: Some(1),
         uids: Some(uids),
         action: Action::Prohibit,
-        ..OWN
+        ..own()
     }
 }
 
 const GATEWAY: Addr = Addr::V4(0x0a00_0001);
 
 // 10.0.0.0/8 dev 5
-const WIDE: Route = Route {
-    prefix: Prefix {
-        base: Addr::V4(0x0a00_0000),
-        len: 8,
-    },
-    out: Out::Dev {
-        link: 5,
-        gateway: None,
-    },
-};
+fn wide() -> Route {
+    Route {
+        prefix: Prefix {
+            base: Addr::V4(0x0a00_0000),
+            len: 8,
+        },
+        out: Out::Dev {
+            link: 5,
+            gateway: None,
+        },
+    }
+}
 
 // 10.1.0.0/16 via 10.0.0.1 dev 6
-const NARROW: Route = Route {
-    prefix: Prefix {
-        base: Addr::V4(0x0a01_0000),
-        len: 16,
-    },
-    out: Out::Dev {
-        link: 6,
-        gateway: Some(GATEWAY),
-    },
-};
+fn narrow() -> Route {
+    Route {
+        prefix: Prefix {
+            base: Addr::V4(0x0a01_0000),
+            len: 16,
+        },
+        out: Out::Dev {
+            link: 6,
+            gateway: Some(GATEWAY),
+        },
+    }
+}
 
 // 10.1.0.0/16 dev 7
-const BESIDE: Route = Route {
-    out: Out::Dev {
-        link: 7,
-        gateway: None,
-    },
-    ..NARROW
-};
+fn beside() -> Route {
+    Route {
+        out: Out::Dev {
+            link: 7,
+            gateway: None,
+        },
+        ..narrow()
+    }
+}
 
 // throw 10.1.0.0/16
-const THROWN: Route = Route {
-    out: Out::Throw,
-    ..NARROW
-};
+fn thrown() -> Route {
+    Route {
+        out: Out::Throw,
+        ..narrow()
+    }
+}
 
 // unreachable 10.1.0.0/16
-const CLOSED: Route = Route {
-    out: Out::Unreachable,
-    ..NARROW
-};
+fn closed() -> Route {
+    Route {
+        out: Out::Unreachable,
+        ..narrow()
+    }
+}
 
 // 127.0.0.0/8 dev lo
-const LOOPBACK4: Route = Route {
-    prefix: Prefix {
-        base: Addr::V4(0x7f00_0000),
-        len: 8,
-    },
-    out: Out::Dev {
-        link: 1,
-        gateway: None,
-    },
-};
+fn loopback4() -> Route {
+    Route {
+        prefix: Prefix {
+            base: Addr::V4(0x7f00_0000),
+            len: 8,
+        },
+        out: Out::Dev {
+            link: 1,
+            gateway: None,
+        },
+    }
+}
 
 // ::1/128 dev lo
-const LOOPBACK6: Route = Route {
-    prefix: Prefix {
-        base: Addr::V6(1),
-        len: 128,
-    },
-    out: Out::Dev {
-        link: 1,
+fn loopback6() -> Route {
+    Route {
+        prefix: Prefix {
+            base: Addr::V6(1),
+            len: 128,
+        },
+        out: Out::Dev {
+            link: 1,
+            gateway: None,
+        },
+    }
+}
+
+fn by_wide() -> Verdict {
+    Verdict::Out {
+        link: 5,
         gateway: None,
-    },
-};
+    }
+}
 
-const BY_WIDE: Verdict = Verdict::Out {
-    link: 5,
-    gateway: None,
-};
+fn by_narrow() -> Verdict {
+    Verdict::Out {
+        link: 6,
+        gateway: Some(GATEWAY),
+    }
+}
 
-const BY_NARROW: Verdict = Verdict::Out {
-    link: 6,
-    gateway: Some(GATEWAY),
-};
-
-const BY_BESIDE: Verdict = Verdict::Out {
-    link: 7,
-    gateway: None,
-};
+fn by_beside() -> Verdict {
+    Verdict::Out {
+        link: 7,
+        gateway: None,
+    }
+}
 
 // In both prefixes of the routes, and in the wider one alone.
 const NEAR: Addr = Addr::V4(0x0a01_0203);
@@ -326,25 +358,29 @@ fn places_rules(rt: HostRuntime) -> Result<(), Fail> {
     let alloc = rt.alloc();
     let row = Row {
         what: "the start",
-        rules4: &[OWN],
-        rules6: &[OWN],
-        tables: &[(255, &[LOOPBACK4, LOOPBACK6]), (97, &[])],
+        rules4: &[own()],
+        rules6: &[own()],
+        tables: &[(255, &[loopback4(), loopback6()]), (97, &[])],
         walks: &[
-            (sent(Addr::V4(0x7f00_0001), None), Verdict::Local, &[OWN]),
-            (sent(Addr::V6(1), None), Verdict::Local, &[OWN]),
-            (sent(NEAR, None), Verdict::Unreachable, &[OWN]),
+            (sent(Addr::V4(0x7f00_0001), None), Verdict::Local, &[own()]),
+            (sent(Addr::V6(1), None), Verdict::Local, &[own()]),
+            (sent(NEAR, None), Verdict::Unreachable, &[own()]),
         ],
         ..plain()
     };
     meets(&rt, alloc, &row)?;
     let row = Row {
         what: "by priority",
-        asked: &[(add4(LAST), Added), (add4(LOCAL), Added)],
-        rules4: &[OWN, LOCAL, LAST],
-        rules6: &[OWN],
+        asked: &[(add4(last()), Added), (add4(local()), Added)],
+        rules4: &[own(), local(), last()],
+        rules6: &[own()],
         walks: &[
-            (sent(NEAR, None), Verdict::Prohibited, &[OWN, LOCAL, LAST]),
-            (sent(SIX, None), Verdict::Unreachable, &[OWN]),
+            (
+                sent(NEAR, None),
+                Verdict::Prohibited,
+                &[own(), local(), last()],
+            ),
+            (sent(SIX, None), Verdict::Unreachable, &[own()]),
         ],
         ..plain()
     };
@@ -352,37 +388,41 @@ fn places_rules(rt: HostRuntime) -> Result<(), Fail> {
     let row = Row {
         what: "behind equals",
         asked: &[
-            (add4(LAST), Added),
-            (add4(LOCAL), Added),
-            (add4(BARRED), Added),
+            (add4(last()), Added),
+            (add4(local()), Added),
+            (add4(barred()), Added),
         ],
-        rules4: &[OWN, LOCAL, BARRED, LAST],
-        rules6: &[OWN],
-        walks: &[(sent(NEAR, None), Verdict::Prohibited, &[OWN, LOCAL, BARRED])],
+        rules4: &[own(), local(), barred(), last()],
+        rules6: &[own()],
+        walks: &[(
+            sent(NEAR, None),
+            Verdict::Prohibited,
+            &[own(), local(), barred()],
+        )],
         ..plain()
     };
     meets(&rt, alloc, &row)?;
     let row = Row {
         what: "behind equals, the other way",
         asked: &[
-            (add4(BARRED), Added),
-            (add4(LAST), Added),
-            (add4(LOCAL), Added),
+            (add4(barred()), Added),
+            (add4(last()), Added),
+            (add4(local()), Added),
         ],
-        rules4: &[OWN, BARRED, LOCAL, LAST],
-        rules6: &[OWN],
-        walks: &[(sent(NEAR, None), Verdict::Prohibited, &[OWN, BARRED])],
+        rules4: &[own(), barred(), local(), last()],
+        rules6: &[own()],
+        walks: &[(sent(NEAR, None), Verdict::Prohibited, &[own(), barred()])],
         ..plain()
     };
     meets(&rt, alloc, &row)?;
     let row = Row {
         what: "each family by itself",
-        asked: &[(add6(BARRED), Added), (add4(LOCAL), Added)],
-        rules4: &[OWN, LOCAL],
-        rules6: &[OWN, BARRED],
+        asked: &[(add6(barred()), Added), (add4(local()), Added)],
+        rules4: &[own(), local()],
+        rules6: &[own(), barred()],
         walks: &[
-            (sent(NEAR, None), Verdict::Unreachable, &[OWN, LOCAL]),
-            (sent(SIX, None), Verdict::Prohibited, &[OWN, BARRED]),
+            (sent(NEAR, None), Verdict::Unreachable, &[own(), local()]),
+            (sent(SIX, None), Verdict::Prohibited, &[own(), barred()]),
         ],
         ..plain()
     };
@@ -390,15 +430,15 @@ fn places_rules(rt: HostRuntime) -> Result<(), Fail> {
     let row = Row {
         what: "deleted in one family",
         asked: &[
-            (add4(LAST), Added),
-            (add6(LAST), Added),
-            (delete4(LAST), Deleted),
+            (add4(last()), Added),
+            (add6(last()), Added),
+            (delete4(last()), Deleted),
         ],
-        rules4: &[OWN],
-        rules6: &[OWN, LAST],
+        rules4: &[own()],
+        rules6: &[own(), last()],
         walks: &[
-            (sent(NEAR, None), Verdict::Unreachable, &[OWN]),
-            (sent(SIX, None), Verdict::Prohibited, &[OWN, LAST]),
+            (sent(NEAR, None), Verdict::Unreachable, &[own()]),
+            (sent(SIX, None), Verdict::Prohibited, &[own(), last()]),
         ],
         ..plain()
     };
@@ -414,13 +454,17 @@ fn changes_nothing_where_it_fails(rt: HostRuntime) -> Result<(), Fail> {
         what: "the second addition is refused",
         refuse: &[2],
         asked: &[
-            (add4(LOCAL), Added),
-            (add4(BARRED), Refused),
-            (add4(LAST), Added),
+            (add4(local()), Added),
+            (add4(barred()), Refused),
+            (add4(last()), Added),
         ],
-        rules4: &[OWN, LOCAL, LAST],
-        rules6: &[OWN],
-        walks: &[(sent(NEAR, None), Verdict::Prohibited, &[OWN, LOCAL, LAST])],
+        rules4: &[own(), local(), last()],
+        rules6: &[own()],
+        walks: &[(
+            sent(NEAR, None),
+            Verdict::Prohibited,
+            &[own(), local(), last()],
+        )],
         ..plain()
     };
     meets(&rt, alloc, &row)?;
@@ -428,16 +472,16 @@ fn changes_nothing_where_it_fails(rt: HostRuntime) -> Result<(), Fail> {
         what: "additions of all kinds are counted",
         refuse: &[3],
         asked: &[
-            (add6(LAST), Added),
-            (delete6(LAST), Deleted),
-            (put(97, WIDE), Added),
-            (add4(LOCAL), Refused),
-            (add4(LOCAL), Added),
+            (add6(last()), Added),
+            (delete6(last()), Deleted),
+            (put(97, wide()), Added),
+            (add4(local()), Refused),
+            (add4(local()), Added),
         ],
-        rules4: &[OWN, LOCAL],
-        rules6: &[OWN],
-        tables: &[(97, &[WIDE])],
-        walks: &[(sent(FAR, None), BY_WIDE, &[OWN, LOCAL])],
+        rules4: &[own(), local()],
+        rules6: &[own()],
+        tables: &[(97, &[wide()])],
+        walks: &[(sent(FAR, None), by_wide(), &[own(), local()])],
         ..plain()
     };
     meets(&rt, alloc, &row)?;
@@ -445,15 +489,15 @@ fn changes_nothing_where_it_fails(rt: HostRuntime) -> Result<(), Fail> {
         what: "the first and the third deletion break",
         breaks: &[1, 3],
         asked: &[
-            (add4(LAST), Added),
-            (delete4(LAST), Broken),
-            (delete4(LAST), Deleted),
-            (add4(LAST), Added),
-            (delete4(LAST), Broken),
+            (add4(last()), Added),
+            (delete4(last()), Broken),
+            (delete4(last()), Deleted),
+            (add4(last()), Added),
+            (delete4(last()), Broken),
         ],
-        rules4: &[OWN, LAST],
-        rules6: &[OWN],
-        walks: &[(sent(NEAR, None), Verdict::Prohibited, &[OWN, LAST])],
+        rules4: &[own(), last()],
+        rules6: &[own()],
+        walks: &[(sent(NEAR, None), Verdict::Prohibited, &[own(), last()])],
         ..plain()
     };
     meets(&rt, alloc, &row)?;
@@ -462,13 +506,13 @@ fn changes_nothing_where_it_fails(rt: HostRuntime) -> Result<(), Fail> {
         refuse: &[1],
         breaks: &[1],
         asked: &[
-            (put(97, WIDE), Refused),
-            (put(97, WIDE), Added),
-            (cut(97, WIDE), Broken),
+            (put(97, wide()), Refused),
+            (put(97, wide()), Added),
+            (cut(97, wide()), Broken),
         ],
-        rules4: &[OWN],
-        rules6: &[OWN],
-        tables: &[(97, &[WIDE])],
+        rules4: &[own()],
+        rules6: &[own()],
+        tables: &[(97, &[wide()])],
         ..plain()
     };
     meets(&rt, alloc, &row)?;
@@ -482,16 +526,16 @@ fn takes_the_best_route(rt: HostRuntime) -> Result<(), Fail> {
     let row = Row {
         what: "a longer prefix",
         asked: &[
-            (add4(LOCAL), Added),
-            (put(97, WIDE), Added),
-            (put(97, NARROW), Added),
+            (add4(local()), Added),
+            (put(97, wide()), Added),
+            (put(97, narrow()), Added),
         ],
-        rules4: &[OWN, LOCAL],
-        rules6: &[OWN],
-        tables: &[(97, &[WIDE, NARROW])],
+        rules4: &[own(), local()],
+        rules6: &[own()],
+        tables: &[(97, &[wide(), narrow()])],
         walks: &[
-            (sent(NEAR, None), BY_NARROW, &[OWN, LOCAL]),
-            (sent(FAR, None), BY_WIDE, &[OWN, LOCAL]),
+            (sent(NEAR, None), by_narrow(), &[own(), local()]),
+            (sent(FAR, None), by_wide(), &[own(), local()]),
         ],
         ..plain()
     };
@@ -499,16 +543,16 @@ fn takes_the_best_route(rt: HostRuntime) -> Result<(), Fail> {
     let row = Row {
         what: "a longer prefix, added first",
         asked: &[
-            (add4(LOCAL), Added),
-            (put(97, NARROW), Added),
-            (put(97, WIDE), Added),
+            (add4(local()), Added),
+            (put(97, narrow()), Added),
+            (put(97, wide()), Added),
         ],
-        rules4: &[OWN, LOCAL],
-        rules6: &[OWN],
-        tables: &[(97, &[NARROW, WIDE])],
+        rules4: &[own(), local()],
+        rules6: &[own()],
+        tables: &[(97, &[narrow(), wide()])],
         walks: &[
-            (sent(NEAR, None), BY_NARROW, &[OWN, LOCAL]),
-            (sent(FAR, None), BY_WIDE, &[OWN, LOCAL]),
+            (sent(NEAR, None), by_narrow(), &[own(), local()]),
+            (sent(FAR, None), by_wide(), &[own(), local()]),
         ],
         ..plain()
     };
@@ -516,32 +560,32 @@ fn takes_the_best_route(rt: HostRuntime) -> Result<(), Fail> {
     let row = Row {
         what: "the first of equal length",
         asked: &[
-            (add4(LOCAL), Added),
-            (put(97, BESIDE), Added),
-            (put(97, NARROW), Added),
+            (add4(local()), Added),
+            (put(97, beside()), Added),
+            (put(97, narrow()), Added),
         ],
-        rules4: &[OWN, LOCAL],
-        rules6: &[OWN],
-        tables: &[(97, &[BESIDE, NARROW])],
-        walks: &[(sent(NEAR, None), BY_BESIDE, &[OWN, LOCAL])],
+        rules4: &[own(), local()],
+        rules6: &[own()],
+        tables: &[(97, &[beside(), narrow()])],
+        walks: &[(sent(NEAR, None), by_beside(), &[own(), local()])],
         ..plain()
     };
     meets(&rt, alloc, &row)?;
     let row = Row {
         what: "a bound packet takes its link's",
         asked: &[
-            (add4(LOCAL), Added),
-            (put(97, WIDE), Added),
-            (put(97, NARROW), Added),
-            (put(97, BESIDE), Added),
+            (add4(local()), Added),
+            (put(97, wide()), Added),
+            (put(97, narrow()), Added),
+            (put(97, beside()), Added),
         ],
-        rules4: &[OWN, LOCAL],
-        rules6: &[OWN],
+        rules4: &[own(), local()],
+        rules6: &[own()],
         walks: &[
-            (sent(NEAR, None), BY_NARROW, &[OWN, LOCAL]),
-            (sent(NEAR, Some(7)), BY_BESIDE, &[OWN, LOCAL]),
-            (sent(NEAR, Some(5)), BY_WIDE, &[OWN, LOCAL]),
-            (sent(NEAR, Some(9)), Verdict::Unreachable, &[OWN, LOCAL]),
+            (sent(NEAR, None), by_narrow(), &[own(), local()]),
+            (sent(NEAR, Some(7)), by_beside(), &[own(), local()]),
+            (sent(NEAR, Some(5)), by_wide(), &[own(), local()]),
+            (sent(NEAR, Some(9)), Verdict::Unreachable, &[own(), local()]),
         ],
         ..plain()
     };
@@ -556,22 +600,26 @@ fn takes_special_routes(rt: HostRuntime) -> Result<(), Fail> {
     let row = Row {
         what: "throw",
         asked: &[
-            (add4(LOCAL), Added),
-            (add4(LAST), Added),
-            (put(97, WIDE), Added),
-            (put(97, THROWN), Added),
+            (add4(local()), Added),
+            (add4(last()), Added),
+            (put(97, wide()), Added),
+            (put(97, thrown()), Added),
         ],
-        rules4: &[OWN, LOCAL, LAST],
-        rules6: &[OWN],
-        tables: &[(97, &[WIDE, THROWN])],
+        rules4: &[own(), local(), last()],
+        rules6: &[own()],
+        tables: &[(97, &[wide(), thrown()])],
         walks: &[
-            (sent(NEAR, None), Verdict::Prohibited, &[OWN, LOCAL, LAST]),
+            (
+                sent(NEAR, None),
+                Verdict::Prohibited,
+                &[own(), local(), last()],
+            ),
             (
                 sent(NEAR, Some(5)),
                 Verdict::Prohibited,
-                &[OWN, LOCAL, LAST],
+                &[own(), local(), last()],
             ),
-            (sent(FAR, None), BY_WIDE, &[OWN, LOCAL]),
+            (sent(FAR, None), by_wide(), &[own(), local()]),
         ],
         ..plain()
     };
@@ -579,28 +627,28 @@ fn takes_special_routes(rt: HostRuntime) -> Result<(), Fail> {
     let row = Row {
         what: "unreachable",
         asked: &[
-            (add4(LOCAL), Added),
-            (add4(LAST), Added),
-            (put(97, NARROW), Added),
-            (put(97, CLOSED), Added),
+            (add4(local()), Added),
+            (add4(last()), Added),
+            (put(97, narrow()), Added),
+            (put(97, closed()), Added),
         ],
-        rules4: &[OWN, LOCAL, LAST],
-        rules6: &[OWN],
-        tables: &[(97, &[NARROW, CLOSED])],
+        rules4: &[own(), local(), last()],
+        rules6: &[own()],
+        tables: &[(97, &[narrow(), closed()])],
         walks: &[
-            (sent(NEAR, None), BY_NARROW, &[OWN, LOCAL]),
-            (sent(NEAR, Some(7)), Verdict::Unreachable, &[OWN, LOCAL]),
+            (sent(NEAR, None), by_narrow(), &[own(), local()]),
+            (sent(NEAR, Some(7)), Verdict::Unreachable, &[own(), local()]),
         ],
         ..plain()
     };
     meets(&rt, alloc, &row)?;
     let row = Row {
         what: "table 255 leads to the device",
-        asked: &[(put(255, WIDE), Added)],
-        rules4: &[OWN],
-        rules6: &[OWN],
-        tables: &[(255, &[LOOPBACK4, LOOPBACK6, WIDE])],
-        walks: &[(sent(NEAR, None), Verdict::Local, &[OWN])],
+        asked: &[(put(255, wide()), Added)],
+        rules4: &[own()],
+        rules6: &[own()],
+        tables: &[(255, &[loopback4(), loopback6(), wide()])],
+        walks: &[(sent(NEAR, None), Verdict::Local, &[own()])],
         ..plain()
     };
     meets(&rt, alloc, &row)?;
@@ -614,18 +662,18 @@ fn keeps_emptied_tables(rt: HostRuntime) -> Result<(), Fail> {
     let row = Row {
         what: "one of two",
         asked: &[
-            (add4(LOCAL), Added),
-            (put(97, WIDE), Added),
-            (put(97, NARROW), Added),
-            (put(1005, BESIDE), Added),
-            (cut(97, WIDE), Deleted),
+            (add4(local()), Added),
+            (put(97, wide()), Added),
+            (put(97, narrow()), Added),
+            (put(1005, beside()), Added),
+            (cut(97, wide()), Deleted),
         ],
-        rules4: &[OWN, LOCAL],
-        rules6: &[OWN],
-        tables: &[(97, &[NARROW]), (1005, &[BESIDE])],
+        rules4: &[own(), local()],
+        rules6: &[own()],
+        tables: &[(97, &[narrow()]), (1005, &[beside()])],
         walks: &[
-            (sent(NEAR, None), BY_NARROW, &[OWN, LOCAL]),
-            (sent(FAR, None), Verdict::Unreachable, &[OWN, LOCAL]),
+            (sent(NEAR, None), by_narrow(), &[own(), local()]),
+            (sent(FAR, None), Verdict::Unreachable, &[own(), local()]),
         ],
         ..plain()
     };
@@ -633,16 +681,16 @@ fn keeps_emptied_tables(rt: HostRuntime) -> Result<(), Fail> {
     let row = Row {
         what: "emptied and filled again",
         asked: &[
-            (put(97, WIDE), Added),
-            (add4(LOCAL), Added),
-            (put(1005, NARROW), Added),
-            (cut(97, WIDE), Deleted),
-            (put(97, BESIDE), Added),
+            (put(97, wide()), Added),
+            (add4(local()), Added),
+            (put(1005, narrow()), Added),
+            (cut(97, wide()), Deleted),
+            (put(97, beside()), Added),
         ],
-        rules4: &[OWN, LOCAL],
-        rules6: &[OWN],
-        tables: &[(97, &[BESIDE]), (1005, &[NARROW])],
-        walks: &[(sent(NEAR, None), BY_BESIDE, &[OWN, LOCAL])],
+        rules4: &[own(), local()],
+        rules6: &[own()],
+        tables: &[(97, &[beside()]), (1005, &[narrow()])],
+        walks: &[(sent(NEAR, None), by_beside(), &[own(), local()])],
         ..plain()
     };
     meets(&rt, alloc, &row)?;
@@ -659,18 +707,18 @@ fn asks_for_selectors(rt: HostRuntime) -> Result<(), Fail> {
     let row = Row {
         what: "selectors",
         asked: &[
-            (add4(BOUND), Added),
-            (add4(CHOSEN), Added),
+            (add4(bound()), Added),
+            (add4(chosen()), Added),
             (add4(locked()), Added),
-            (put(1005, WIDE), Added),
+            (put(1005, wide()), Added),
         ],
-        rules4: &[OWN, locked(), CHOSEN, BOUND],
-        rules6: &[OWN],
+        rules4: &[own(), locked(), chosen(), bound()],
+        rules6: &[own()],
         walks: &[
-            (sent(FAR, None), Verdict::Prohibited, &[OWN, locked()]),
-            (protected, BY_WIDE, &[OWN, CHOSEN]),
-            (root, BY_WIDE, &[OWN, BOUND]),
-            (passed, Verdict::Unreachable, &[OWN]),
+            (sent(FAR, None), Verdict::Prohibited, &[own(), locked()]),
+            (protected, by_wide(), &[own(), chosen()]),
+            (root, by_wide(), &[own(), bound()]),
+            (passed, Verdict::Unreachable, &[own()]),
         ],
         ..plain()
     };
