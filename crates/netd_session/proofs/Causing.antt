@@ -28,8 +28,7 @@ use Rattle.netd_session.specs.Causes.{InGrammar, HasBadLine, RefusedStart, Comes
 use Rattle.netd_session.specs.EndedView.{EndedView}
 use Rattle.netd_session.specs.Ending.{World, AtInput, AtLine, AtStart, EndsInput, EndsStart, HasBegun, HasGiven, HasReadFault, HasRun, StartFails}
 use Rattle.netd_session.specs.Talks.{EndsLine, HasWriteFault}
-use Rattle.netd_session.specs.Turns.{Standing, Goes, IsAnsweredLine, IsMadeAndTraced, IsPacketLine, IsRefused, Ran, no_line, one_more}
-use Rattle.net_names.specs.declared.code.Code.TheVariants as code
+use Rattle.netd_session.specs.Turns.{Standing, Goes, IsAnsweredLine, IsBoundAndTraced, IsPacketLine, Ran, no_line, one_more}
 use Rattle.policy_state.specs.View.{link_named}
 use Rattle.prefixes.specs.declared.addr.Addr.{Addr}
 use Rattle.script_reader.specs.declared.line.ShowLine.{ShowLine}
@@ -61,7 +60,7 @@ packet_stays : (uid : Uid) (mark : ℕ) (dest : Addr) (link : Option (List ℕ))
 packet_stays uid mark dest None n s e turns out (packet, made, traced) = traced.0
 packet_stays uid mark dest (Some name) n s e turns out is = by (link_named s.controller.state name) is
   where
-    by : (o : Option ℕ) → (elim o [ Some link ↦ IsMadeAndTraced uid mark dest (Some link) n s e turns out | None ↦ IsRefused code.NoDevice n s e turns out ]) → e ≡ s
+    by : (o : Option ℕ) → IsBoundAndTraced uid mark dest o n s e turns out → e ≡ s
     by (Some link) (packet, made, traced) = traced.0
     by None told = told.0
 

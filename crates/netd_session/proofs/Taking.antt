@@ -18,8 +18,10 @@ use Rattle.uid_ranges.specs.declared.range.Uid.{Uid}
 use Rattle.netd_session.specs.Offers.{Written}
 use Rattle.netd_session.specs.Went.{went_text}
 use Rattle.netd_session.specs.declared.turn.Said.{Said}
+use Rattle.netd_session.specs.declared.turn.Said.TheVariants as said
 use Rattle.netd_session.specs.Talks.{Answers, IsBad, IsTaken, IsToldBad, OffersBad, Takes}
-use Rattle.netd_session.specs.Turns.{Standing, turn_of, IsTold, IsAnsweredLine}
+use Rattle.netd_session.specs.Turns.{Standing, turn_of, IsTold, IsMadeAndTraced, IsBoundAndTraced, IsPacketLine, IsAnsweredLine}
+use Rattle.policy_state.specs.View.{link_named}
 use Rattle.netd_session.specs.declared.turn.Turn.{Turn}
 use Rattle.netd_session.specs.declared.status.Status.{Status}
 use Rattle.netd_session.specs.declared.status.Status.TheVariants as status
@@ -63,6 +65,31 @@ told l (Ok u) what text n s e turns after out as_line same grew says kept = (
   as_line (turn_of n what s ∷ []) (same, ap (λ (x : Standing). turn_of n what x ∷ []) (sym same), says),
 )
 told l (Err f) what text n s e turns after out as_line same grew says kept = (same, kept)
+
+-- a packet's line was answered, or memory was wanting
+pub packet_told : (result : Result (Unit {0}) AllocError) (uid : Uid) (mark : ℕ) (dest : Addr) (link : Option (List ℕ)) (bound : Option ℕ) (packet : Packet) (n : ℕ) (s e : Standing) (turns after : List Turn) (out : List ℕ)
+    → ((more : List Turn) → IsMadeAndTraced uid mark dest bound n s e more out → IsPacketLine uid mark dest link n s e more out)
+    → IsMade uid mark dest bound packet → e ≡ s
+    → OnOk result (after ≡ turns ++ turn_of n (said.Went packet.mark (policy s.controller.state packet)) s ∷ [])
+    → OnOk result (out ≡ numbered n (went_text s.controller.state packet.mark (policy s.controller.state packet) (trail_of (state_of s.kernel) packet)))
+    → OnErr result (after ≡ turns) → Answers result (line.Trace (trace.Made uid mark dest link)) n s e turns after out
+packet_told result uid mark dest link bound packet n s e turns after out as_line made same grew says kept =
+    told (line.Trace (trace.Made uid mark dest link)) result (said.Went packet.mark (policy s.controller.state packet))
+    (went_text s.controller.state packet.mark (policy s.controller.state packet) (trail_of (state_of s.kernel) packet)) n s e turns after out
+    (λ more is. as_line more (packet, made, is)) same grew says kept
+
+-- the packet is bound to no link
+pub unbound_line : (uid : Uid) (mark : ℕ) (dest : Addr) (link : Option (List ℕ)) (n : ℕ) (s e : Standing) (out : List ℕ) → link ≡ None
+    → (more : List Turn) → IsMadeAndTraced uid mark dest None n s e more out → IsPacketLine uid mark dest link n s e more out
+unbound_line uid mark dest link n s e out none more is = subst (λ (l : Option (List ℕ)). IsPacketLine uid mark dest l n s e more out) (sym none) is
+
+-- the packet is bound to the link of a name
+pub bound_line : (uid : Uid) (mark : ℕ) (dest : Addr) (link : Option (List ℕ)) (name : List ℕ) (index : ℕ) (n : ℕ) (s e : Standing) (out : List ℕ)
+    → link ≡ Some name → link_named s.controller.state name ≡ Some index
+    → (more : List Turn) → IsMadeAndTraced uid mark dest (Some index) n s e more out → IsPacketLine uid mark dest link n s e more out
+bound_line uid mark dest link name index n s e out some known more is =
+    subst (λ (l : Option (List ℕ)). IsPacketLine uid mark dest l n s e more out) (sym some)
+    (subst (λ (o : Option ℕ). IsBoundAndTraced uid mark dest o n s e more out) (sym known) is)
 
 -- a bad line was told, or a front of what is said of it
 pub bad_line : (result : Status) (text : List ℕ) (n : ℕ) (s e : Standing) (turns after : List Turn) (column : ℕ) (old new : Written)

@@ -5,7 +5,6 @@ use Rattle.kernel_model.specs.View.{KernelView, state_of}
 use Rattle.kernel_model.specs.Walk.{trail_of}
 use Rattle.rule_match.specs.Packet.{IsMade}
 use Rattle.rule_match.specs.declared.packet.Packet.{Packet}
-use Rattle.rule_match.specs.declared.verdict.Verdict.{Verdict}
 use Rattle.prefixes.specs.declared.addr.Addr.{Addr}
 use Rattle.uid_ranges.specs.declared.range.Uid.{Uid}
 use Rattle.net_names.specs.declared.code.Code.{Code}
@@ -77,20 +76,22 @@ IsShown text n s e turns out = IsTold said.Shown text n s e turns out
 -- a packet's line says where the policy sends it, and prints the rules that it meets on the way
 abbrev pub IsTraced : Packet → ℕ → (s e : Standing) → List Turn → List ℕ → Type 0
 IsTraced packet n s e turns out =
-    let verdict : Verdict = policy s.controller.state packet in
-    IsTold (said.Went packet.mark verdict) (went_text s.controller.state packet.mark verdict (trail_of (state_of s.kernel) packet)) n s e turns out
+    IsTold (said.Went packet.mark (policy s.controller.state packet))
+    (went_text s.controller.state packet.mark (policy s.controller.state packet) (trail_of (state_of s.kernel) packet)) n s e turns out
 
 -- the packet that is made with this binding is traced
 abbrev pub IsMadeAndTraced : Uid → ℕ → Addr → Option ℕ → ℕ → (s e : Standing) → List Turn → List ℕ → Type 0
 IsMadeAndTraced uid mark dest bound n s e turns out = (packet : Packet) × IsMade uid mark dest bound packet × IsTraced packet n s e turns out
 
--- what a packet's line says: it is bound to no link, or to the one of this name, and a name that no link has is refused
+-- a packet that is bound to the link of a name; a name that no link has is refused
+abbrev pub IsBoundAndTraced : Uid → ℕ → Addr → Option ℕ → ℕ → (s e : Standing) → List Turn → List ℕ → Type 0
+IsBoundAndTraced uid mark dest (Some link) n s e turns out = IsMadeAndTraced uid mark dest (Some link) n s e turns out
+IsBoundAndTraced uid mark dest None n s e turns out = IsRefused code.NoDevice n s e turns out
+
+-- what a packet's line says: the packet is bound to no link, or to the one of this name
 abbrev pub IsPacketLine : Uid → ℕ → Addr → Option (List ℕ) → ℕ → (s e : Standing) → List Turn → List ℕ → Type 0
 IsPacketLine uid mark dest None n s e turns out = IsMadeAndTraced uid mark dest None n s e turns out
-IsPacketLine uid mark dest (Some name) n s e turns out = elim (link_named s.controller.state name) [
-  | Some link ↦ IsMadeAndTraced uid mark dest (Some link) n s e turns out
-  | None ↦ IsRefused code.NoDevice n s e turns out
-]
+IsPacketLine uid mark dest (Some name) n s e turns out = IsBoundAndTraced uid mark dest (link_named s.controller.state name) n s e turns out
 
 -- what the line says, and what it changes
 abbrev pub IsAnsweredLine : Line → ℕ → (s e : Standing) → List Turn → List ℕ → Type 0
