@@ -26,7 +26,7 @@ carry-requires g c =
     omega (arith, c.in-Some.ensures.0, c.in_default-make_room.ensures.spare) in
     may_carry c.in-Ok-plan.plan (asked s command) before (g.K.Kernel.seen c.make_room.new.kernel) (g.K.Kernel.room c.make_room.new.kernel) c.in-Ok-plan.ensures c.make_room.ensures.seen
     (c.requests_can_be_asked.ensures.distinct (state_of before) s command may) (c.requests_can_be_asked.ensures.absent (state_of before) s command may)
-    (c.requests_can_be_asked.ensures.present (state_of before) s command may) (c.requests_can_be_asked.ensures.one_kind (state_of before) s command may)
+    (c.requests_can_be_asked.ensures.present (state_of before) s command may) (c.requests_can_be_asked.ensures.one_kind s command)
     room c.in_default-make_room.ensures.ready
 
 pub returns-in-Done-clause-kept : goal.returns-in-Done-clause-kept
