@@ -1,133 +1,157 @@
-use crate::{plan, rule_count, rules};
+use crate::plan;
 use fwmark::Permission;
-use kernel_model::Request;
+use kernel_model::{Plan, Request};
 use net_names::Name;
 use policy_state::{Command, State, StepFault, Way};
 use prefixes::{Addr, Family, Prefix};
-use rule_match::Action;
 use std::alloc::Global;
 use std::process::Abort;
 use std::test::Fail;
-use uid_ranges::{Uid, UidRange};
 
-fn name(rt: &impl Abort) -> Name {
-    Name::from_bytes(b"wlan0").expect(rt, "a name")
+// What the command asks of a kernel that stands for the state.
+fn asked(alloc: Global, old: &State, command: &Command) -> Result<Plan, StepFault> {
+    let new = old.step(command)?;
+    match plan(alloc, old, &new, command) {
+        Ok(plan) => Ok(plan),
+        Err(fault) => Err(StepFault::Memory(fault)),
+    }
 }
 
-// Network 100, which asks for no permission, with the link 2.
+fn with_link(alloc: Global, name: Name) -> Result<State, StepFault> {
+    match State::start(alloc) {
+        Ok(state) => state.step(&Command::LinkAdd { name, index: 2 }),
+        Err(fault) => Err(StepFault::Memory(fault)),
+    }
+}
+
+// Network 100, which asks for no permission, and the link 2.
 fn with_network(alloc: Global, name: Name) -> Result<State, StepFault> {
-    let state = match State::start(alloc) {
-        Ok(state) => state,
-        Err(fault) => return Err(StepFault::Memory(fault)),
-    };
-    let state = state.step(&Command::LinkAdd { name, index: 2 })?;
-    state.step(&Command::CreatePhysical {
+    let permission = Permission::Nothing;
+    with_link(alloc, name)?.step(&Command::CreatePhysical {
         net: 100,
-        permission: Permission::Nothing,
+        permission,
     })
 }
 
-// A rule of this priority in this family.
-fn is_rule(request: Option<Request>, family: Family, priority: u32) -> bool {
+fn with_interface(alloc: Global, name: Name) -> Result<State, StepFault> {
+    with_network(alloc, name)?.step(&Command::InterfaceAdd { net: 100, name })
+}
+
+fn is_rule(request: Request, family: Family, priority: u32) -> bool {
     match request {
-        Some(Request::Rule { family: f, rule }) => f == family && rule.priority == priority,
-        Some(Request::Route { .. }) | None => false,
+        Request::Rule { family: f, rule } => f == family && rule.priority == priority,
+        Request::Route { .. } => false,
     }
 }
 
-fn is_route(request: Option<Request>, number: u32) -> bool {
-    match request {
-        Some(Request::Route { table, .. }) => table == number,
-        Some(Request::Rule { .. }) | None => false,
+// Rules of these priorities in turn, each for the one family and then for the other.
+fn are_rules(requests: &[Request], one: Family, other: Family, priorities: &[u32]) -> bool {
+    if priorities.len() > 4 || requests.len() != 2 * priorities.len() {
+        return false;
+    }
+    for place in 0..priorities.len() {
+        let priority = priorities[place];
+        if !is_rule(requests[2 * place], one, priority)
+            || !is_rule(requests[2 * place + 1], other, priority)
+        {
+            return false;
+        }
+    }
+    true
+}
+
+// One route, in this table.
+fn is_route(requests: &[Request], number: u32) -> bool {
+    if requests.len() != 1 {
+        return false;
+    }
+    match requests[0] {
+        Request::Route { table, .. } => table == number,
+        Request::Rule { .. } => false,
     }
 }
 
+fn wlan(rt: &impl Abort) -> Name {
+    Name::from_bytes(b"wlan0").expect(rt, "a name")
+}
+
+// An interface of a network that asks for no permission has four rules.
 #[test]
-fn lockdown_is_one_rule_in_each_family(rt: HostRuntime) -> Result<(), Fail> {
-    let first = Uid::new(10000).expect(&rt, "a UID");
-    let last = Uid::new(19999).expect(&rt, "a UID");
-    let command = Command::LockdownAdd {
-        range: UidRange::new(first, last).expect(&rt, "a range"),
-    };
-    let old = State::start(rt.alloc())?;
-    let new = old.step(&command)?;
-
-    let table = rules(rt.alloc(), &new)?;
-    assert_eq!(rt; rule_count(&new), 4);
-    assert_eq!(rt; table.len(), 4);
-    assert_eq!(rt; table[0].action, Action::Prohibit);
-
-    let plan = plan(rt.alloc(), &old, &new, &command)?;
-    assert_eq!(rt; plan.add_count(), 2);
-    assert_eq!(rt; plan.delete_count(), 0);
-    assert!(rt; is_rule(plan.add_at(0), Family::V4, 12500));
-    assert!(rt; is_rule(plan.add_at(1), Family::V6, 12500));
+fn an_interface_comes(rt: HostRuntime) -> Result<(), Fail> {
+    let name = wlan(&rt);
+    let old = with_network(rt.alloc(), name)?;
+    let come = asked(rt.alloc(), &old, &Command::InterfaceAdd { net: 100, name })?;
+    assert!(rt;
+        are_rules(
+            come.adds(),
+            Family::V4,
+            Family::V6,
+            &[10500, 13000, 14000, 19000]
+        )
+    );
+    assert!(rt; come.delete_count() == 0);
     Ok(())
 }
 
-// An interface of a network that asks for no permission has four rules, and three of them change with the permission.
+// Three of them are replaced where the network asks for a permission, and the fourth goes.
 #[test]
-fn an_interface_comes_and_its_permission_changes(rt: HostRuntime) -> Result<(), Fail> {
-    let name = name(&rt);
-    let old = with_network(rt.alloc(), name)?;
-    let come = Command::InterfaceAdd { net: 100, name };
-    let new = old.step(&come)?;
-
-    let first = plan(rt.alloc(), &old, &new, &come)?;
-    assert_eq!(rt; first.add_count(), 8);
-    assert_eq!(rt; first.delete_count(), 0);
-    for (place, priority) in [10500, 13000, 14000, 19000].iter().enumerate() {
-        assert!(rt; is_rule(first.add_at(2 * place), Family::V4, *priority));
-        assert!(rt; is_rule(first.add_at(2 * place + 1), Family::V6, *priority));
-    }
-
-    let change = Command::PermissionNetwork {
-        net: 100,
-        permission: Permission::System,
-    };
-    let after = new.step(&change)?;
-    let second = plan(rt.alloc(), &new, &after, &change)?;
-    assert_eq!(rt; second.add_count(), 6);
-    for (place, priority) in [10500, 13000, 14000].iter().enumerate() {
-        assert!(rt; is_rule(second.add_at(2 * place), Family::V4, *priority));
-        assert!(rt; is_rule(second.add_at(2 * place + 1), Family::V6, *priority));
-    }
-    assert_eq!(rt; second.delete_count(), 8);
-    for (place, priority) in [19000, 14000, 13000, 10500].iter().enumerate() {
-        assert!(rt; is_rule(second.delete_at(2 * place), Family::V6, *priority));
-        assert!(rt; is_rule(second.delete_at(2 * place + 1), Family::V4, *priority));
-    }
+fn a_permission_changes(rt: HostRuntime) -> Result<(), Fail> {
+    let old = with_interface(rt.alloc(), wlan(&rt))?;
+    let permission = Permission::System;
+    let change = asked(
+        rt.alloc(),
+        &old,
+        &Command::PermissionNetwork {
+            net: 100,
+            permission,
+        },
+    )?;
+    assert!(rt;
+        are_rules(
+            change.adds(),
+            Family::V4,
+            Family::V6,
+            &[10500, 13000, 14000]
+        )
+    );
+    assert!(rt;
+        are_rules(
+            change.deletes(),
+            Family::V6,
+            Family::V4,
+            &[19000, 14000, 13000, 10500]
+        )
+    );
     Ok(())
 }
 
 #[test]
 fn a_route_is_one_request(rt: HostRuntime) -> Result<(), Fail> {
-    let name = name(&rt);
-    let state = with_network(rt.alloc(), name)?;
-    let old = state.step(&Command::InterfaceAdd { net: 100, name })?;
+    let name = wlan(&rt);
     let prefix = Prefix::new(Addr::V4(0x0a000000), 8).expect(&rt, "a prefix");
+    let way = Way::Direct;
     let add = Command::RouteAdd {
         net: 100,
         name,
         prefix,
-        way: Way::Direct,
+        way,
     };
-    let new = old.step(&add)?;
-    let come = plan(rt.alloc(), &old, &new, &add)?;
-    assert_eq!(rt; come.add_count(), 1);
-    assert_eq!(rt; come.delete_count(), 0);
-    assert!(rt; is_route(come.add_at(0), 1002));
+    let old = with_interface(rt.alloc(), name)?;
+    let come = asked(rt.alloc(), &old, &add)?;
+    assert!(rt; is_route(come.adds(), 1002) && come.delete_count() == 0);
 
-    let remove = Command::RouteRemove {
-        net: 100,
-        name,
-        prefix,
-        special: false,
-    };
-    let after = new.step(&remove)?;
-    let go = plan(rt.alloc(), &new, &after, &remove)?;
-    assert_eq!(rt; go.add_count(), 0);
-    assert_eq!(rt; go.delete_count(), 1);
-    assert!(rt; is_route(go.delete_at(0), 1002));
+    let new = old.step(&add)?;
+    let special = false;
+    let go = asked(
+        rt.alloc(),
+        &new,
+        &Command::RouteRemove {
+            net: 100,
+            name,
+            prefix,
+            special,
+        },
+    )?;
+    assert!(rt; is_route(go.deletes(), 1002) && go.add_count() == 0);
     Ok(())
 }
