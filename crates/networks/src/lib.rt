@@ -7,3 +7,5 @@ mod networks_by_id;
 pub use network::{Kind, LinkRoute, LinkRoutes, Links, Network};
 pub use networks_by_id::Networks;
 
+#[cfg(test)]
+mod tests;

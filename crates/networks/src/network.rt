@@ -3,7 +3,7 @@ ghost use Rattle.networks.specs.Network.{has_link, holds_user};
 ghost use Rattle.prefixes.specs.Route.{same_key};
 
 use fwmark::Permission;
-use prefixes::{same_key, Route};
+use prefixes::{Route, same_key};
 use std::alloc::{AllocError, Global};
 use std::marker::Model;
 use uid_ranges::{RangeList, Uid};
@@ -158,7 +158,10 @@ impl Network {
     pub fn has_link(&self, link: u16) -> bool
         ensures { result ≡ has_link self.now link }
     {
-        self.interfaces.as_slice().iter().any(|other| *other == link)
+        self.interfaces
+            .as_slice()
+            .iter()
+            .any(|other| *other == link)
     }
 
     /// Whether the network is a VPN of this user.
