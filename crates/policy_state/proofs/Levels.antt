@@ -21,7 +21,8 @@ use Rattle.rule_match.specs.declared.rule.Rule.{Rule}
 use Rattle.rule_match.proofs.Sames.{same_rule-true, same_selectors-refl, same_selectors-from}
 use Rattle.policy_state.specs.View.{StateView, IsGood}
 use Rattle.policy_state.specs.Table.{PhysicalLink, physical_links, is_free, permission_word, Level, RootInterface, Lockdown, Explicit, BoundInterface, LocalNetwork, Implicit, Last, levels, priority_of, rules_at, rule_table, root_interface_rule, lockdown_rule, explicit_rule, explicit_local_rule, bound_rule, local_rule, implicit_rule, last_rule}
-use Rattle.policy_state.proofs.PhysicalLinks.{all-at, all-filter, same_item, IsLinkIn, all-in, link_in, one_link, one_permission}
+use Rattle.policy_state.proofs.Lists.{all-filter}
+use Rattle.policy_state.proofs.PhysicalLinks.{all-at, same_item, IsLinkIn, all-in, link_in, one_link, one_permission}
 
 -- the rule stands in the list
 abbrev pub is_among : List Rule → Rule → Bool

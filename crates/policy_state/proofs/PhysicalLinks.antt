@@ -1,5 +1,5 @@
 -- The interfaces of a good state's physical networks: each is in one network, and each network has an id of its own.
-use Rattle.std.proofs.Common.{◌≡◌, ◌==◌, ◌∷◌, [], ◌++◌, ℕ, zero, suc, List, Bool, true, not, filter, Some, refl, sym, ◌∙◌, ap, ap₂, subst, map, slice_get, inl, inr}
+use Rattle.std.proofs.Common.{◌≡◌, ◌==◌, ◌∷◌, [], ◌++◌, ℕ, zero, suc, List, true, not, Some, refl, sym, ◌∙◌, ap, ap₂, subst, map, slice_get, inl, inr}
 use Rattle.std.specs.Prelude.{flat_map, ◌⊎◌}
 use Rattle.std.specs.List.{list_any, AllByRecursion}
 use Rattle.std.specs.Option.{option_map}
@@ -33,10 +33,6 @@ module _ {X : Type 0} (P : X → Type 0) where
   pub all-flat : {N : Type 0} (f : N → List X) (ns : List N) → AllByRecursion (λ n. AllByRecursion P (f n)) ns → AllByRecursion P (flat_map f ns)
   all-flat f [] h = tt
   all-flat f (n ∷ ns) h = all-append (f n) (flat_map f ns) h.0 (all-flat f ns h.1)
-
-  pub all-filter : (stays : X → Bool) (xs : List X) → AllByRecursion P xs → AllByRecursion P (filter stays xs)
-  all-filter stays [] h = tt
-  all-filter stays (x ∷ xs) h = elim (cases_Bool (stays x)) [ inl t ↦ rw t (h.0, all-filter stays xs h.1) | inr t ↦ rw t (all-filter stays xs h.1) ]
 
 pub all-mapped : {X Y : Type 0} (P : Y → Type 0) (f : X → Y) (xs : List X) → AllByRecursion (λ x. P (f x)) xs → AllByRecursion P (map f xs)
 all-mapped P f [] h = tt
