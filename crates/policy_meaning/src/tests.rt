@@ -1,9 +1,10 @@
 use crate::decide;
 use fwmark::Permission;
 use net_names::Name;
-use policy_state::{Command, State, Way};
+use policy_state::{Command, State, StepFault, Way};
 use prefixes::{Addr, Prefix};
 use rule_match::{Packet, Verdict};
+use std::alloc::Global;
 use std::process::Abort;
 use std::test::Fail;
 use uid_ranges::{Uid, UidRange};
@@ -18,31 +19,54 @@ fn range(rt: &impl Abort, first: u32, last: u32) -> UidRange {
     UidRange::new(uid(rt, first), uid(rt, last)).expect(rt, "a range")
 }
 
-// Network 100, with one interface and a default route.
-fn with_network(state: State, index: u16, permission: Permission, way: Way) -> Result<State, Fail> {
-    let name = Name::from_bytes(b"w").ok_or("a name")?;
-    let prefix = Prefix::new(Addr::V4(0), 0).ok_or("a prefix")?;
-    let state = state.step(&Command::LinkAdd { name, index })?;
-    let state = state.step(&Command::CreatePhysical {
+fn with_link(alloc: Global, name: Name, index: u16) -> Result<State, StepFault> {
+    match State::start(alloc) {
+        Ok(state) => state.step(&Command::LinkAdd { name, index }),
+        Err(fault) => Err(StepFault::Memory(fault)),
+    }
+}
+
+fn with_network(state: &State, permission: Permission) -> Result<State, StepFault> {
+    state.step(&Command::CreatePhysical {
         net: 100,
         permission,
-    })?;
-    let state = state.step(&Command::InterfaceAdd { net: 100, name })?;
-    let state = state.step(&Command::RouteAdd {
+    })
+}
+
+fn with_interface(state: &State, name: Name) -> Result<State, StepFault> {
+    state.step(&Command::InterfaceAdd { net: 100, name })
+}
+
+fn with_route(state: &State, name: Name, prefix: Prefix, way: Way) -> Result<State, StepFault> {
+    state.step(&Command::RouteAdd {
         net: 100,
         name,
         prefix,
         way,
-    })?;
-    Ok(state)
+    })
+}
+
+// Network 100, with one interface and a default route.
+fn connected(
+    rt: &impl Abort,
+    linked: &State,
+    name: Name,
+    permission: Permission,
+    way: Way,
+) -> Result<State, StepFault> {
+    let prefix = Prefix::new(Addr::V4(0), 0).expect(rt, "a prefix");
+    let state = with_interface(&with_network(linked, permission)?, name)?;
+    with_route(&state, name, prefix, way)
+}
+
+fn lock_down(state: &State, range: UidRange) -> Result<State, StepFault> {
+    state.step(&Command::LockdownAdd { range })
 }
 
 // Who is locked down reaches the device itself and nothing else, if its packet isn't protected.
 #[test]
 fn lockdown_guards(rt: HostRuntime) -> Result<(), Fail> {
-    let state = State::start(rt.alloc())?.step(&Command::LockdownAdd {
-        range: range(&rt, 10000, 19999),
-    })?;
+    let state = lock_down(&State::start(rt.alloc())?, range(&rt, 10000, 19999))?;
 
     let protected = 0x20000;
     for (number, mark, dest, verdict) in [
@@ -69,12 +93,9 @@ fn lockdown_guards(rt: HostRuntime) -> Result<(), Fail> {
 // A network that asks for a permission is reached by it alone, bound or chosen.
 #[test]
 fn a_network_asks_for_its_permission(rt: HostRuntime) -> Result<(), Fail> {
-    let state = with_network(
-        State::start(rt.alloc())?,
-        2,
-        Permission::Network,
-        Way::Direct,
-    )?;
+    let name = Name::from_bytes(b"w").expect(&rt, "a name");
+    let linked = with_link(rt.alloc(), name, 2)?;
+    let state = connected(&rt, &linked, name, Permission::Network, Way::Direct)?;
     let out = Verdict::Out {
         link: 2,
         gateway: None,
@@ -94,26 +115,21 @@ fn a_network_asks_for_its_permission(rt: HostRuntime) -> Result<(), Fail> {
 // Where all are locked down, root still reaches the interface to which it binds.
 #[test]
 fn root_under_lockdown(rt: HostRuntime) -> Result<(), Fail> {
+    let name = Name::from_bytes(b"w").expect(&rt, "a name");
     let router = Addr::V4(0xc0a8_0101);
-    let open = with_network(
-        State::start(rt.alloc())?,
-        3,
-        Permission::Nothing,
-        Way::Via(router),
-    )?;
+    let linked = with_link(rt.alloc(), name, 3)?;
+    let open = connected(&rt, &linked, name, Permission::Nothing, Way::Via(router))?;
     let out = Verdict::Out {
         link: 3,
         gateway: Some(router),
     };
     let named = Packet::made(uid(&rt, 10050), 0x64, DNS, None);
-    assert_eq!(rt; decide(&open, &named), out);
+    assert!(rt; decide(&open, &named) == out);
 
-    let locked = open.step(&Command::LockdownAdd {
-        range: range(&rt, 0, 4_294_967_294),
-    })?;
-    for (number, verdict) in [(0, out), (1000, Verdict::Prohibited)] {
-        let packet = Packet::made(uid(&rt, number), 0, DNS, Some(3));
-        assert_eq!(rt; decide(&locked, &packet), verdict, "of {number}");
-    }
+    let locked = lock_down(&open, range(&rt, 0, 4_294_967_294))?;
+    let root = Packet::made(uid(&rt, 0), 0, DNS, Some(3));
+    assert!(rt; decide(&locked, &root) == out);
+    let system = Packet::made(uid(&rt, 1000), 0, DNS, Some(3));
+    assert!(rt; decide(&locked, &system) == Verdict::Prohibited);
     Ok(())
 }
