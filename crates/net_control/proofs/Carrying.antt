@@ -1,5 +1,5 @@
 -- What carrying out a command's plan says of the controller.
-use Rattle.std.proofs.Common.{◌≡◌, ◌∙◌, ℕ, ◌+◌, ◌<◌, ◌≤◌, Bool, nat_lt, List, ◌++◌, Option, Some, None, length, refl, sym, ap, subst, arith, lit≤, inl, inr}
+use Rattle.std.proofs.Common.{◌≡◌, ◌∙◌, ℕ, ◌+◌, ◌<◌, ◌≤◌, Bool, nat_lt, List, ◌++◌, Option, Some, None, length, refl, sym, ap, subst, lit≤, inl, inr}
 use Rattle.std.proofs.lemmas.Bool.{lt-ltb, le-ltb}
 use Rattle.std.specs.Bool.{if◌then◌else◌}
 use Rattle.net_names.specs.declared.code.Code.{Code}

@@ -10,7 +10,6 @@ use Rattle.script_reader.specs.declared.line.Line.{Line}
 use Rattle.netd_session.specs.Offers.{Written}
 use Rattle.turn_text.specs.Texts.{numbered, bad_text}
 use Rattle.netd_session.specs.Turns.{Standing, IsAnsweredLine, Goes}
-use Rattle.netd_session.specs.declared.turn.Said.{Said}
 use Rattle.netd_session.specs.declared.turn.Turn.{Turn}
 use Rattle.netd_session.specs.declared.status.Status.{Status}
 use Rattle.netd_session.specs.declared.status.Status.TheVariants as status

@@ -124,12 +124,14 @@ impl Talk {
         match line {
             Line::Blank => Ok(()),
             Line::Control(command) => self.answer_command(number, command, kernel),
-            Line::Trace(TraceLine::Made {
-                uid,
-                mark,
-                dest,
-                link,
-            }) => self.answer_made(number, *uid, *mark, *dest, link, kernel),
+            Line::Trace(
+                TraceLine::Made {
+                    uid,
+                    mark,
+                    dest,
+                    link,
+                },
+            ) => self.answer_made(number, *uid, *mark, *dest, link, kernel),
             Line::Show(show) => self.answer_show(number, show, kernel),
         }
     }

@@ -112,11 +112,7 @@ pub(crate) fn tell_networks(
 }
 
 // Tells why a question is refused.
-pub(crate) fn tell_refusal(
-    number: u32,
-    code: Code,
-    answer: &mut Vec<u8>,
-) -> Result<(), AllocError>
+pub(crate) fn tell_refusal(number: u32, code: Code, answer: &mut Vec<u8>) -> Result<(), AllocError>
     requires empty { answer.old.items ≡ [] }
     ensures text { OnOk result (answer.new.items ≡ numbered number (refused_text code)) }
 {

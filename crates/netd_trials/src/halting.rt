@@ -66,11 +66,7 @@ fn sample(rt: &impl Abort, alloc: Global) -> Result<Vec<Packet>, AllocError> {
     Ok(packets)
 }
 
-fn verdicts(
-    alloc: Global,
-    state: &State,
-    packets: &[Packet],
-) -> Result<Vec<Verdict>, AllocError> {
+fn verdicts(alloc: Global, state: &State, packets: &[Packet]) -> Result<Vec<Verdict>, AllocError> {
     packets
         .iter()
         .map(|packet| decide(state, packet))

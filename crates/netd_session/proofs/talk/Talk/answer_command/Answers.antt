@@ -1,4 +1,4 @@
-use Rattle.std.proofs.Common.{◌≡◌, ◌∙◌, ℕ, List, [], ◌∷◌, ◌++◌, ap}
+use Rattle.std.proofs.Common.{◌∙◌, ℕ, List, [], ◌∷◌, ◌++◌, ap}
 use Rattle.netd_session.specs.declared.turn.Turn.{Turn}
 use Rattle.netd_session.proofs.talk.Talk.answer_command.Goals as goal
 use Rattle.turn_text.specs.Texts.{numbered, answer_text}
