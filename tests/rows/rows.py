@@ -22,6 +22,16 @@ def made_cases():
     yield "line-feeds-past-the-limit", ["run"], b"\n" * (INPUT_LIMIT + 1), b"", 9
 
 
+def halted_cases():
+    """A network's permission is changed while each of the sixteen deletions breaks in turn: requests 35 to 50."""
+    case = HERE / "cases" / "permission-carried"
+    stdin, stdout = (case / "stdin").read_bytes(), (case / "stdout").read_bytes()
+    before = stdout[: stdout.index(b"7: done\n")]
+    for broken in range(1, 17):
+        said = before + b"7: halted at request %d\n" % (34 + broken)
+        yield "permission-halted-%d" % broken, ["run", "--break", str(broken)], stdin, said, 7
+
+
 def first_difference(got, want):
     got_lines, want_lines = got.split(b"\n"), want.split(b"\n")
     for number in range(max(len(got_lines), len(want_lines))):
@@ -44,7 +54,7 @@ def passes(program, name, words, stdin, stdout, status):
 def main():
     program, patterns = sys.argv[1], sys.argv[2:] or ["*"]
     passed = failed = 0
-    for case in [*stored_cases(), *made_cases()]:
+    for case in [*stored_cases(), *halted_cases(), *made_cases()]:
         if not any(fnmatch.fnmatch(case[0], pattern) for pattern in patterns):
             continue
         if passes(program, *case):
