@@ -73,29 +73,61 @@ fn verdicts(alloc: Global, state: &State, packets: &[Packet]) -> Result<Vec<Verd
         .collect(alloc)
 }
 
-#[test]
-fn each_packet_goes_by_the_policy_before_or_after(rt: HostRuntime) -> Result<(), Fail> {
-    let alloc = rt.alloc();
-    let change = Command::PermissionNetwork {
+// A kernel whose deletion of this number breaks.
+fn kernel_that_breaks(alloc: Global, broken: u64) -> Result<SimKernel, AllocError> {
+    let mut breaks = Vec::new(alloc);
+    breaks.push(broken)?;
+    SimKernel::new(alloc, Vec::new(alloc), breaks)
+}
+
+fn new_permission() -> Command {
+    Command::PermissionNetwork {
         net: NET,
         permission: Permission::System,
-    };
-    let packets = sample(&rt, alloc)?;
+    }
+}
+
+fn assert_among(
+    rt: &impl Abort,
+    kernel: &SimKernel,
+    packets: &[Packet],
+    before: &[Verdict],
+    after: &[Verdict],
+) {
+    for (place, packet) in packets.iter().enumerate() {
+        let verdict = kernel.walk(packet);
+        let goes_on = before.get(place) == Some(&verdict);
+        let goes_anew = after.get(place) == Some(&verdict);
+        assert!(rt; goes_on || goes_anew);
+    }
+}
+
+// The permission is changed while the deletion of this number breaks.
+fn halts_at(rt: &impl Abort, alloc: Global, packets: &[Packet], broken: u64) -> Result<(), Fail> {
+    let mut kernel = kernel_that_breaks(alloc, broken)?;
+    let mut controller = Controller::start(alloc, &mut kernel)?;
+    build(rt, &mut controller, &mut kernel);
+    let before = verdicts(alloc, controller.state(), packets)?;
+    let after = verdicts_behind(alloc, controller.state(), packets)?;
+    let answer = controller.apply(&mut kernel, &new_permission());
+    let request = ADDITIONS + broken;
+    assert_eq!(rt; answer, Answer::Halted { request });
+    assert_among(rt, &kernel, packets, &before, &after);
+    Ok(())
+}
+
+// Where the packets go by the new permission.
+fn verdicts_behind(alloc: Global, state: &State, packets: &[Packet]) -> Result<Vec<Verdict>, Fail> {
+    let new = state.step(&new_permission())?;
+    let verdicts = verdicts(alloc, &new, packets)?;
+    Ok(verdicts)
+}
+
+#[test]
+fn each_packet_goes_by_the_policy_before_or_after(rt: HostRuntime) -> Result<(), Fail> {
+    let packets = sample(&rt, rt.alloc())?;
     for broken in 1..DELETIONS + 1 {
-        let mut breaks = Vec::new(alloc);
-        breaks.push(broken)?;
-        let mut kernel = SimKernel::new(alloc, Vec::new(alloc), breaks)?;
-        let mut controller = Controller::start(alloc, &mut kernel)?;
-        build(&rt, &mut controller, &mut kernel);
-        let before = verdicts(alloc, controller.state(), &packets)?;
-        let after = verdicts(alloc, &controller.state().step(&change)?, &packets)?;
-        let answer = controller.apply(&mut kernel, &change);
-        let request = ADDITIONS + broken;
-        assert_eq!(rt; answer, Answer::Halted { request });
-        for (place, packet) in packets.iter().enumerate() {
-            let verdict = kernel.walk(packet);
-            assert!(rt; verdict == before[place] || verdict == after[place]);
-        }
+        halts_at(&rt, rt.alloc(), &packets, broken)?;
     }
     Ok(())
 }
