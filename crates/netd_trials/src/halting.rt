@@ -1,4 +1,6 @@
 //! A network's permission is changed while each of the deletions breaks in turn.
+ghost use Rattle.net_control.specs.View.{IsKept};
+
 use fwmark::Permission;
 use kernel_model::Kernel;
 use net_control::{Answer, Controller};
@@ -15,41 +17,72 @@ use uid_ranges::Uid;
 
 const NET: u16 = 100;
 
-const LINKS: [(&[u8], u16); 2] = [(b"wlan0", 3), (b"wlan1", 4)];
-
 /// Six additions of the start, eight for each interface, a route each, and twelve of the command itself.
 const ADDITIONS: u64 = 6 + 2 * 8 + 2 + 12;
 
 /// Four rules for each interface, in each family.
-const DELETIONS: u64 = 2 * 4 * 2;
+const DELETIONS: u32 = 2 * 4 * 2;
 
 fn name(rt: &impl Abort, bytes: &[u8]) -> Name {
     Name::from_bytes(bytes).expect(rt, "a name")
 }
 
-// The commands that lead to a network with two interfaces and a route by each.
-fn build<K: Kernel>(rt: &impl Abort, controller: &mut Controller, kernel: &mut K) {
-    let everywhere = Prefix::new(Addr::V4(0), 0).expect(rt, "a prefix");
+fn must_do<K: Kernel>(
+    rt: &impl Abort,
+    controller: &mut Controller,
+    kernel: &mut K,
+    command: Command,
+)
+    requires { IsKept controller.old (K.seen kernel.old) }
+    ensures { IsKept controller.new (K.seen kernel.new) }
+{
+    let answer = controller.apply(kernel, &command);
+    assert_eq!(rt; answer, Answer::Done);
+}
+
+// A link that becomes an interface of the network, with a route to everywhere.
+fn add_interface<K: Kernel>(
+    rt: &impl Abort,
+    controller: &mut Controller,
+    kernel: &mut K,
+    link: (&[u8], u16),
+)
+    requires { IsKept controller.old (K.seen kernel.old) }
+    ensures { IsKept controller.new (K.seen kernel.new) }
+{
+    let (bytes, index) = link;
+    let name = name(rt, bytes);
+    let prefix = Prefix::new(Addr::V4(0), 0).expect(rt, "a prefix");
+    let way = Way::Direct;
+    must_do(rt, controller, kernel, Command::LinkAdd { name, index });
+    must_do(
+        rt,
+        controller,
+        kernel,
+        Command::InterfaceAdd { net: NET, name },
+    );
+    let route = Command::RouteAdd {
+        net: NET,
+        name,
+        prefix,
+        way,
+    };
+    must_do(rt, controller, kernel, route);
+}
+
+// A network with two interfaces and a route by each.
+fn build<K: Kernel>(rt: &impl Abort, controller: &mut Controller, kernel: &mut K)
+    requires { IsKept controller.old (K.seen kernel.old) }
+    ensures { IsKept controller.new (K.seen kernel.new) }
+{
+    let permission = Permission::Nothing;
     let create = Command::CreatePhysical {
         net: NET,
-        permission: Permission::Nothing,
+        permission,
     };
-    assert_eq!(rt; controller.apply(kernel, &create), Answer::Done);
-    for (bytes, index) in LINKS {
-        let name = name(rt, bytes);
-        for command in [
-            Command::LinkAdd { name, index },
-            Command::InterfaceAdd { net: NET, name },
-            Command::RouteAdd {
-                net: NET,
-                name,
-                prefix: everywhere,
-                way: Way::Direct,
-            },
-        ] {
-            assert_eq!(rt; controller.apply(kernel, &command), Answer::Done);
-        }
-    }
+    must_do(rt, controller, kernel, create);
+    add_interface(rt, controller, kernel, (b"wlan0", 3));
+    add_interface(rt, controller, kernel, (b"wlan1", 4));
 }
 
 // Packets of root and of an app, with and without a selection, a permission and a binding.
@@ -73,11 +106,10 @@ fn verdicts(alloc: Global, state: &State, packets: &[Packet]) -> Result<Vec<Verd
         .collect(alloc)
 }
 
-// A kernel whose deletion of this number breaks.
-fn kernel_that_breaks(alloc: Global, broken: u64) -> Result<SimKernel, AllocError> {
-    let mut breaks = Vec::new(alloc);
-    breaks.push(broken)?;
-    SimKernel::new(alloc, Vec::new(alloc), breaks)
+fn list_of(alloc: Global, number: u64) -> Result<Vec<u64>, AllocError> {
+    let mut list = Vec::new(alloc);
+    list.push(number)?;
+    Ok(list)
 }
 
 fn new_permission() -> Command {
@@ -103,8 +135,9 @@ fn assert_among(
 }
 
 // The permission is changed while the deletion of this number breaks.
-fn halts_at(rt: &impl Abort, alloc: Global, packets: &[Packet], broken: u64) -> Result<(), Fail> {
-    let mut kernel = kernel_that_breaks(alloc, broken)?;
+fn halts_at(rt: &impl Abort, alloc: Global, packets: &[Packet], broken: u32) -> Result<(), Fail> {
+    let broken = u64::from(broken);
+    let mut kernel = SimKernel::new(alloc, Vec::new(alloc), list_of(alloc, broken)?)?;
     let mut controller = Controller::start(alloc, &mut kernel)?;
     build(rt, &mut controller, &mut kernel);
     let before = verdicts(alloc, controller.state(), packets)?;
