@@ -17,9 +17,20 @@ def stored_cases():
 
 
 def made_cases():
-    """Inputs as large as an input may be, and one byte larger."""
+    """Inputs as large as an input may be, one byte larger, and one that fills the journal."""
     yield "line-feeds-at-the-limit", ["run"], b"\n" * INPUT_LIMIT, b"", 0
     yield "line-feeds-past-the-limit", ["run"], b"\n" * (INPUT_LIMIT + 1), b"", 9
+    yield "journal-at-the-limit", ["run"], *full_journal(), 0
+
+
+def full_journal():
+    """A range is locked down and set free until the journal has 999,998 entries: another two might have to be undone."""
+    lines = [b"lockdown add 0-9", b"lockdown remove 0-9"] * 249_998
+    said = [b"%d: done" % number for number in range(1, len(lines) + 1)]
+    lines += [b"lockdown add 0-9", b"lockdown remove 0-9", b"packet 5 0x0 8.8.8.8"]
+    said += [b"499997: refused ENOSPC", b"499998: refused ENOENT", b"499999: mark 0x0 unreachable"]
+    said += [b"  0 lookup 255", b"  17000 lookup 97", b"  32000 unreachable"]
+    return b"\n".join(lines) + b"\n", b"\n".join(said) + b"\n"
 
 
 def halted_cases():

@@ -11,3 +11,5 @@ pub mod Switches
 pub mod Standing
 pub mod Segments
 pub mod Routes
+pub mod Formed
+pub mod Levels

@@ -7,6 +7,7 @@ pub mod View
 pub mod Walk
 pub mod PlanView
 pub mod Segment
+pub mod Form
 pub mod Moments
 pub mod Stands
 pub mod Switch

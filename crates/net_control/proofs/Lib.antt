@@ -2,3 +2,4 @@ pub mod Carrying
 pub mod Causing
 pub mod Policed
 pub mod Bounding
+pub mod Forming

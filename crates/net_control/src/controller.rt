@@ -94,6 +94,7 @@ fn make_room<K: Kernel>(kernel: &mut K, plan: &Plan, most: u64) -> Result<(), Al
 }
 
 impl Controller {
+    ghost use Rattle.kernel_model.specs.Form.{AreWellFormed};
     ghost use Rattle.net_control.specs.Started.{IsStarted};
     ghost use Rattle.net_control.specs.Applied.{IsAnswered};
     ghost use Rattle.net_control.specs.View.{IsKept};
@@ -145,6 +146,9 @@ impl Controller {
 
         // at every moment between two requests
         ensures moments { KeepsPolicy (K.seen kernel.old) (K.seen kernel.new) start start }
+
+        // each request is one that can be said
+        ensures formed { AreWellFormed (K.seen kernel.new).journal }
     {
         start_law();
         own_rule_means_start();
@@ -235,11 +239,15 @@ impl Controller {
         // how much is asked
         ensures bounded { KeepsLimit self.old.state command.now (K.seen kernel.old) (K.seen kernel.new) }
 
+        // each request is one that can be said
+        ensures formed { AreWellFormed (K.seen kernel.old).journal → AreWellFormed (K.seen kernel.new).journal }
+
         // at every moment between two requests, undoing and halts included
         ensures moments { self.old.halted ≡ None → KeepsPolicy (K.seen kernel.old) (K.seen kernel.new) self.old.state (changed self.old.state command.now) }
         ensures locked { self.old.halted ≡ None → KeepsLockdown (K.seen kernel.old) (K.seen kernel.new) self.old.state (changed self.old.state command.now) }
     {
         command.fits_types();
+        requests_can_be_asked();
         plan_law();
         plan_ends();
         table_means_policy();

@@ -14,25 +14,19 @@ use Rattle.kernel_model.specs.declared.request.Entry.{Entry}
 use Rattle.kernel_model.specs.declared.request.EntryKind.TheVariants.{Added, Refused}
 use Rattle.kernel_model.specs.declared.request.Request.{Request}
 use Rattle.line_input.specs.Lines.{input_limit}
-use Rattle.net_control.proofs.Bounding.{start_few}
 use Rattle.net_control.proofs.Causing.{has_start_cause}
-use Rattle.net_control.specs.Limit.{journal_limit}
 use Rattle.net_control.specs.Causes.{BrokeNone, BrokeSome}
 use Rattle.net_control.specs.Started.{start_adds}
 use Rattle.net_control.specs.declared.controller.StartFault.TheVariants as fault
 use Rattle.script_reader.specs.declared.line.Line.{Line}
 use Rattle.script_reader.specs.declared.line.Line.TheVariants as line
 use Rattle.script_reader.specs.declared.line.TraceLine.TheVariants as trace
-use Rattle.script_reader.specs.declared.line.ShowLine.TheVariants as show
+use Rattle.netd_session.proofs.Keeping.{IsInOrder, packet_stays, session_in_order, show_stays}
 use Rattle.netd_session.specs.Causes.{InGrammar, HasBadLine, RefusedStart, ComesWhere, NothingFailed, HasCauses, StandsThen, IsCausedSession}
 use Rattle.netd_session.specs.EndedView.{EndedView}
-use Rattle.netd_session.specs.Ending.{World, AtInput, AtLine, AtStart, EndsInput, EndsStart, HasBegun, HasGiven, HasReadFault, HasRun, StartFails}
+use Rattle.netd_session.specs.Ending.{World, AtInput, AtLine, AtStart, EndsInput, EndsStart, HasBegun, HasGiven, HasReadFault, HasRun}
 use Rattle.netd_session.specs.Talks.{EndsLine, HasWriteFault}
-use Rattle.netd_session.specs.Turns.{Standing, Goes, IsAnsweredLine, IsBoundAndTraced, IsPacketLine, Ran, no_line, one_more}
-use Rattle.policy_state.specs.View.{link_named}
-use Rattle.prefixes.specs.declared.addr.Addr.{Addr}
-use Rattle.script_reader.specs.declared.line.ShowLine.{ShowLine}
-use Rattle.uid_ranges.specs.declared.range.Uid.{Uid}
+use Rattle.netd_session.specs.Turns.{Standing, Goes, IsAnsweredLine, Ran, no_line, one_more}
 use Rattle.netd_session.specs.declared.turn.Turn.{Turn}
 use Rattle.netd_session.specs.declared.status.Status.{Status}
 use Rattle.netd_session.specs.declared.status.Status.TheVariants as status
@@ -54,22 +48,6 @@ grew_twice a b c (xs, first) (ys, second) = (
 never_falls : (before after : KernelView) → HasGrown before after → breaks_of before ≤ breaks_of after
 never_falls before after (entries, grew) = omega (arith, ap breaks_of grew ∙ breaks-grown before entries)
 
--- a packet's line changes nothing
-packet_stays : (uid : Uid) (mark : ℕ) (dest : Addr) (link : Option (List ℕ)) (n : ℕ) (s e : Standing) (turns : List Turn) (out : List ℕ)
-    → IsPacketLine uid mark dest link n s e turns out → e ≡ s
-packet_stays uid mark dest None n s e turns out (packet, made, traced) = traced.0
-packet_stays uid mark dest (Some name) n s e turns out is = by (link_named s.controller.state name) is
-  where
-    by : (o : Option ℕ) → IsBoundAndTraced uid mark dest o n s e turns out → e ≡ s
-    by (Some link) (packet, made, traced) = traced.0
-    by None told = told.0
-
--- a report changes nothing
-show_stays : (question : ShowLine) (n : ℕ) (s e : Standing) (turns : List Turn) (out : List ℕ) → IsAnsweredLine (line.Show question) n s e turns out → e ≡ s
-show_stays (show.Rules family) n s e turns out is = is.0
-show_stays (show.Table number) n s e turns out is = is.0
-show_stays show.Networks n s e turns out is = is.0
-
 -- what a line does to the journal
 answered_grew : (l : Line) (n : ℕ) (s e : Standing) (turns : List Turn) (out : List ℕ) → IsAnsweredLine l n s e turns out → HasGrown s.kernel e.kernel
 answered_grew line.Blank n s e turns out is = grew_by_none s.kernel e.kernel (ap (λ (x : Standing). x.kernel) is.0)
@@ -79,9 +57,6 @@ answered_grew (line.Show question) n s e turns out is = grew_by_none s.kernel e.
 
 goes_grew : (text : List ℕ) (n : ℕ) (s e : Standing) (turns : List Turn) (out : List ℕ) → Goes text n s e turns out → HasGrown s.kernel e.kernel
 goes_grew text n s e turns out goes = answered_grew goes.line n s e turns out goes.answered
-
-stays_few : (s e : Standing) → e ≡ s → length s.kernel.journal ≤ journal_limit → length e.kernel.journal ≤ journal_limit
-stays_few s e same few = omega (arith, few, ap (λ (x : Standing). length x.kernel.journal) same)
 
 -- what a line says of the breaks: none while the controller runs on, and one where it halts
 record Breaks (s e : Standing) : Type 0 where
@@ -280,68 +255,12 @@ complete old new given lines status.Halted k many read written none = broke_both
 complete old new given lines status.StartRefused k many read written none = absurd (none.started k.0)
 complete old new given lines status.TooLong k many read written none = absurd (let few = none.short in omega (arith, many, few))
 
--- the journal keeps its limit
-abbrev Bounded : (old new : World) → Type 0
-Bounded old new = old.kernel.journal ≡ [] → length new.kernel.journal ≤ journal_limit
-
-answered_few : (l : Line) (n : ℕ) (s e : Standing) (turns : List Turn) (out : List ℕ) → IsAnsweredLine l n s e turns out
-    → length s.kernel.journal ≤ journal_limit → length e.kernel.journal ≤ journal_limit
-answered_few line.Blank n s e turns out is few = omega (arith, few, ap (λ (x : Standing). length x.kernel.journal) is.0)
-answered_few (line.Control command) n s e turns out is few = is.bounded.within few
-answered_few (line.Trace (trace.Made uid mark dest link)) n s e turns out is few =
-    omega (arith, few, ap (λ (x : Standing). length x.kernel.journal) (packet_stays uid mark dest link n s e turns out is))
-answered_few (line.Show question) n s e turns out is few =
-    omega (arith, few, ap (λ (x : Standing). length x.kernel.journal) (show_stays question n s e turns out is))
-
-ran_few : {begun : Standing} {texts : List (List ℕ)} {e : Standing} {turns : List Turn} {out : List ℕ} → Ran begun texts e turns out
-    → length begun.kernel.journal ≤ journal_limit → length e.kernel.journal ≤ journal_limit
-ran_few no_line few = few
-ran_few (one_more texts m turns out ran runs text e more more_out goes) few =
-    answered_few goes.line (length texts + 1) m e more more_out goes.answered (ran_few ran few)
-
-run_few : (old : World) (lines : List (List ℕ)) (stands : Standing) (turns : List Turn) (out : List ℕ) → HasRun old lines stands turns out
-    → old.kernel.journal ≡ [] → length stands.kernel.journal ≤ journal_limit
-run_few old lines stands turns out run none =
-    ran_few run.ran (start_few (Ok run.begun.controller) old.kernel run.begun.kernel run.began.started none)
-
-line_few : (s : Status) (text : List ℕ) (n : ℕ) (a e : Standing) (more : List Turn) (out : List ℕ) (taken : ℕ) → EndsLine s text n a e more out taken
-    → length a.kernel.journal ≤ journal_limit → length e.kernel.journal ≤ journal_limit
-line_few status.Finished text n a e more out taken ends few = absurd ends
-line_few status.BadWords text n a e more out taken ends few = absurd ends
-line_few status.BadLine text n a e more out taken ends few = stays_few a e ends.0.stays few
-line_few status.ReadFault text n a e more out taken ends few = absurd ends
-line_few status.WriteFault text n a e more out taken (inl bad, short) few = stays_few a e bad.stays few
-line_few status.WriteFault text n a e more out taken (inr goes, short) few = answered_few goes.line n a e more out goes.answered few
-line_few status.Memory text n a e more out taken (inl bad, short) few = stays_few a e bad.stays few
-line_few status.Memory text n a e more out taken (inr (inl goes), short) few = answered_few goes.line n a e more out goes.answered few
-line_few status.Memory text n a e more out taken (inr (inr untouched), short) few = stays_few a e untouched.0 few
-line_few status.Halted text n a e more out taken ends few = answered_few ends.0.line n a e more out ends.0.answered few
-line_few status.StartRefused text n a e more out taken ends few = absurd ends
-line_few status.TooLong text n a e more out taken ends few = absurd ends
-
-fails_few : (old new : KernelView) (text : List ℕ) → old.journal ≡ [] → StartFails status.StartRefused old new text ⊎ StartFails status.Halted old new text
-    → length new.journal ≤ journal_limit
-fails_few old new text none (inl (request, started, moments, says)) = start_few (Err (fault.Refused request)) old new started none
-fails_few old new text none (inr (request, started, moments, says)) = start_few (Err (fault.Halted request)) old new started none
-
-begin_few : (s : Status) (old new : KernelView) (text : List ℕ) (taken : ℕ) → EndsStart s old new text taken → old.journal ≡ [] → length new.journal ≤ journal_limit
-begin_few status.Finished old new text taken ends none = absurd ends
-begin_few status.BadWords old new text taken ends none = absurd ends
-begin_few status.BadLine old new text taken ends none = absurd ends
-begin_few status.ReadFault old new text taken ends none = absurd ends
-begin_few status.WriteFault old new text taken ends none = fails_few old new text none ends.0
-begin_few status.Memory old new text taken (inl refused, short) none = fails_few old new text none (inl refused)
-begin_few status.Memory old new text taken (inr (inl halted), short) none = fails_few old new text none (inr halted)
-begin_few status.Memory old new text taken (inr (inr (same, nothing)), short) none = omega (arith, ap (λ (k : KernelView). length k.journal) same, ap length none)
-begin_few status.Halted old new text taken ends none = fails_few old new text none (inr ends.0)
-begin_few status.StartRefused old new text taken ends none = fails_few old new text none (inl ends.0)
-begin_few status.TooLong old new text taken ends none = absurd ends
-
 -- all causes, by what is known
 has_causes : (old new : World) (given : List ℕ) (lines : List (List ℕ)) (s : Status) → Known old new lines s
     → HasGiven s (length given) → (new.ended ≡ true → IsAtEnd new.left)
-    → HasReadFault s old.read_faults new.read_faults → HasWriteFault s old.write_faults new.write_faults → Bounded old new → HasCauses old new s given lines
-has_causes old new given lines s known many none_left read written bounded = record {
+    → HasReadFault s old.read_faults new.read_faults → HasWriteFault s old.write_faults new.write_faults
+    → (old.kernel.journal ≡ [] → IsInOrder new.kernel) → HasCauses old new s given lines
+has_causes old new given lines s known many none_left read written order = record {
   finished = λ e. let ended : new.ended ≡ true = (subst (λ (t : Status). Known old new lines t) e known).0 in (ended, none_left ended);
   bad_words = λ e. subst (λ (t : Status). Known old new lines t) e known;
   bad_line = bad_line old new lines s known;
@@ -351,7 +270,8 @@ has_causes old new given lines s known many none_left read written bounded = rec
   start_refused = start_refused old new lines s known;
   too_long = too_long s (length given) many;
   complete = complete old new given lines s known many read written;
-  bounded = bounded;
+  bounded = λ none. (order none).few;
+  formed = λ none. (order none).formed;
 }
 
 -- what is known where the start fails
@@ -472,19 +392,8 @@ module _ (old new : World) (ended : EndedView) (given : List ℕ) (lines : List 
   known_and_stands (inr (inl at)) = (known_at_line old new ended lines out at ended.status at.ends, stands_at_line at ended.status at.ends)
   known_and_stands (inr (inr at)) = (known_at_input old new ended given lines out at ended.status at.ends, stands_at_input at ended.status at.ends)
 
-  bounded : AtStart old new ended given lines out ⊎ (AtLine old new ended lines out ⊎ AtInput old new ended given lines out) → Bounded old new
-  bounded (inl at) none = begin_few ended.status old.kernel new.kernel at.text at.taken at.ends none
-  bounded (inr (inl at)) none =
-      omega (
-        arith,
-        ap (λ (k : KernelView). length k.journal) at.kernel_is,
-        line_few ended.status at.text (length at.before + 1) at.stood at.stands at.more at.last at.taken at.ends (run_few old at.before at.stood at.turns at.said at.run none),
-      )
-  bounded (inr (inr at)) none =
-      omega (arith, ap (λ (k : KernelView). length k.journal) at.kernel_is, run_few old lines at.stands ended.turns out at.run none)
-
 -- the causes of a session
 pub caused_session : (old new : World) (ended : EndedView) → IsCausedSession old new ended
 caused_session old new ended s =
     let both = known_and_stands old new ended s.given s.lines s.out s.ending in
-    (has_causes old new s.given s.lines ended.status both.0 s.few s.none_left s.read_fault s.write_fault (bounded old new ended s.given s.lines s.out s.ending), both.1)
+    (has_causes old new s.given s.lines ended.status both.0 s.few s.none_left s.read_fault s.write_fault (session_in_order old new ended s), both.1)

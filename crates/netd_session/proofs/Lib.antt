@@ -1,4 +1,5 @@
 pub mod Ends
 pub mod Taking
 pub mod Starting
+pub mod Keeping
 pub mod Causing

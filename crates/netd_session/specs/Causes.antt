@@ -3,6 +3,7 @@ use Rattle.std.specs.Prelude.{◌≡◌, ◌≢◌, ◌⊎◌, ◌↔◌, ℕ, �
 use Rattle.std.specs.List.{Contains}
 use Rattle.std.specs.Io.KnownBytes.{IsAtEnd}
 use Rattle.line_input.specs.Lines.{input_limit}
+use Rattle.kernel_model.specs.Form.{AreWellFormed}
 use Rattle.kernel_model.specs.View.{KernelView}
 use Rattle.net_control.specs.Causes.{BrokeNone, BrokeSome}
 use Rattle.net_control.specs.Limit.{journal_limit}
@@ -63,6 +64,8 @@ pub record HasCauses (old new : World) (s : Status) (given : List ℕ) (lines : 
   pub complete : NothingFailed old new given lines → (s ≡ status.Finished) ⊎ (s ≡ status.Memory)
   -- whatever the status, a journal that was empty stays within its limit
   pub bounded : old.kernel.journal ≡ [] → length new.kernel.journal ≤ journal_limit
+  -- and each request in it is one that can be said
+  pub formed : old.kernel.journal ≡ [] → AreWellFormed new.kernel.journal
 
 -- the end of a session has a text, of which all was written
 abbrev pub WroteWhole : (old new : World) → EndedView → List ℕ → List (List ℕ) → List ℕ → Type 0

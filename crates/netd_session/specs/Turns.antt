@@ -1,5 +1,6 @@
 -- What a session says, line by line.
 use Rattle.std.specs.Prelude.{◌≡◌, ℕ, ◌+◌, List, [], ◌∷◌, ◌++◌, length, Option, None, Some}
+use Rattle.kernel_model.specs.Form.{AreWellFormed}
 use Rattle.kernel_model.specs.State.{rules_of, routes_of}
 use Rattle.kernel_model.specs.View.{KernelView, state_of}
 use Rattle.kernel_model.specs.Walk.{trail_of}
@@ -55,6 +56,7 @@ pub record IsCommanded (command : Command) (n : ℕ) (s e : Standing) (turns : L
   pub answered : IsAnswered a command s.controller e.controller s.kernel e.kernel
   pub caused : HasCause a command s.controller e.controller s.kernel e.kernel
   pub bounded : KeepsLimit s.controller.state command s.kernel e.kernel
+  pub formed : AreWellFormed s.kernel.journal → AreWellFormed e.kernel.journal
   pub says : Says what a
   pub turns_are : turns ≡ turn_of n what e ∷ []
   pub text : out ≡ numbered n (answer_text a)

@@ -1,5 +1,6 @@
 ghost use Rattle.std.specs.Prelude.{◌≡◌, false, [], None};
 ghost use Rattle.net_io.specs.Streams.{CanCount};
+ghost use Rattle.kernel_model.specs.Form.{AreWellFormed};
 ghost use Rattle.kernel_model.specs.View.{KernelView};
 ghost use Rattle.net_control.specs.Moments.{SendsByPolicy};
 ghost use Rattle.net_control.specs.View.{IsKept};
@@ -84,6 +85,35 @@ fn answer_lines<S: Source, W: Sink, K: Kernel>(
     }
 }
 
+// Starts a controller and answers the lines.
+fn begin<S: Source, W: Sink, K: Kernel>(
+    alloc: Global,
+    source: &mut S,
+    sink: &mut W,
+    kernel: &mut K,
+) -> Ended
+    requires starting { (K.seen kernel.old).journal ≡ [] }
+    requires reads { CanCount (S.faults source.old) }
+    requires writes { CanCount (W.faults sink.old) }
+    requires not_ended { S.ended source.old ≡ false }
+    ensures { IsSession
+        (record { left = S.left source.old; read_faults = S.faults source.old; ended = S.ended source.old; written = W.written sink.old; write_faults = W.faults sink.old; kernel = K.seen kernel.old })
+        (record { left = S.left source.new; read_faults = S.faults source.new; ended = S.ended source.new; written = W.written sink.new; write_faults = W.faults sink.new; kernel = K.seen kernel.new })
+        result }
+{
+    let Ok(text) = Vec::with_capacity(alloc, START_ROOM) else {
+        return Ended::of(Status::Memory, Vec::new(alloc));
+    };
+    match Controller::start(alloc, kernel) {
+        Ok(controller) => {
+            let mut talk = Talk::new(alloc, controller, text);
+            let status = answer_lines(source, sink, kernel, &mut talk);
+            Ended::of(status, talk.into_turns())
+        }
+        Err(fault) => Ended::of(tell_start(fault, text, sink), Vec::new(alloc)),
+    }
+}
+
 /// Reads the lines of a script from the source, carries each out on the kernel and offers its answer to the sink, until
 /// the input or a fault ends it.
 pub fn session<S: Source, W: Sink, K: Kernel>(
@@ -101,21 +131,14 @@ pub fn session<S: Source, W: Sink, K: Kernel>(
         (record { left = S.left source.new; read_faults = S.faults source.new; ended = S.ended source.new; written = W.written sink.new; write_faults = W.faults sink.new; kernel = K.seen kernel.new })
         result }
 
+    // whatever the status, each request that was asked is one that can be said
+    ensures formed { AreWellFormed (K.seen kernel.new).journal }
+
     // why it ended so, and what stands then
     ensures causes { IsCausedSession
         (record { left = S.left source.old; read_faults = S.faults source.old; ended = S.ended source.old; written = W.written sink.old; write_faults = W.faults sink.old; kernel = K.seen kernel.old })
         (record { left = S.left source.new; read_faults = S.faults source.new; ended = S.ended source.new; written = W.written sink.new; write_faults = W.faults sink.new; kernel = K.seen kernel.new })
         result }
 {
-    let Ok(text) = Vec::with_capacity(alloc, START_ROOM) else {
-        return Ended::of(Status::Memory, Vec::new(alloc));
-    };
-    match Controller::start(alloc, kernel) {
-        Ok(controller) => {
-            let mut talk = Talk::new(alloc, controller, text);
-            let status = answer_lines(source, sink, kernel, &mut talk);
-            Ended::of(status, talk.into_turns())
-        }
-        Err(fault) => Ended::of(tell_start(fault, text, sink), Vec::new(alloc)),
-    }
+    begin(alloc, source, sink, kernel)
 }

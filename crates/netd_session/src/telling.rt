@@ -24,7 +24,7 @@ use report_text::{write_networks, write_rules, write_table, write_trail, write_v
 use rule_match::{Packet, Verdict};
 use script_reader::write_mark;
 use std::alloc::{AllocError, Global};
-use turn_text::{write_number, write_refused};
+use turn_text::{write_line_number, write_refused};
 
 // Appends the text of a packet's way.
 fn write_way(
@@ -63,7 +63,7 @@ pub(crate) fn tell_packet<K: Kernel>(
     let trail = follow(alloc, kernel, packet)?;
     let verdict = trail.verdict();
     let mark = packet.mark();
-    write_number(number, answer)?;
+    write_line_number(number, answer)?;
     write_way(controller.state(), mark, &verdict, &trail, answer)?;
     Ok(Said::Went { mark, verdict })
 }
@@ -79,7 +79,7 @@ pub(crate) fn tell_rules<K: Kernel>(
     requires empty { answer.old.items ≡ [] }
     ensures text { OnOk result (answer.new.items ≡ numbered number (rules_text controller.now.state (rules_of (state_of (K.seen kernel.now)) family))) }
 {
-    write_number(number, answer)?;
+    write_line_number(number, answer)?;
     write_rules(kernel, controller.state(), family, answer)
 }
 
@@ -94,7 +94,7 @@ pub(crate) fn tell_table<K: Kernel>(
     requires empty { answer.old.items ≡ [] }
     ensures text { OnOk result (answer.new.items ≡ numbered number (routes_text controller.now.state (routes_of table (state_of (K.seen kernel.now)).tables))) }
 {
-    write_number(number, answer)?;
+    write_line_number(number, answer)?;
     write_table(kernel, controller.state(), table, answer)
 }
 
@@ -107,7 +107,7 @@ pub(crate) fn tell_networks(
     requires empty { answer.old.items ≡ [] }
     ensures text { OnOk result (answer.new.items ≡ numbered number (networks_text controller.now.state)) }
 {
-    write_number(number, answer)?;
+    write_line_number(number, answer)?;
     write_networks(controller.state(), answer)
 }
 
@@ -116,6 +116,6 @@ pub(crate) fn tell_refusal(number: u32, code: Code, answer: &mut Vec<u8>) -> Res
     requires empty { answer.old.items ≡ [] }
     ensures text { OnOk result (answer.new.items ≡ numbered number (refused_text code)) }
 {
-    write_number(number, answer)?;
+    write_line_number(number, answer)?;
     write_refused(code, answer)
 }

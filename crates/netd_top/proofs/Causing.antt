@@ -1,8 +1,10 @@
 -- Why the program ends as it does.
-use Rattle.std.proofs.Common.{◌≡◌, ◌∙◌, ◌⊎◌, ◌↔◌, ℕ, ◌<◌, List, length, inl, inr, refl, sym, ap, subst, arith}
+use Rattle.std.proofs.Common.{◌≡◌, ◌∙◌, ◌⊎◌, ◌↔◌, ℕ, ◌<◌, List, [], length, inl, inr, refl, sym, ap, subst, arith}
 use Rattle.command_words.specs.Forms.{FormView, IsForm, run}
+use Rattle.kernel_model.specs.Form.{AreWellFormed}
 use Rattle.kernel_model.specs.View.{breaks_of}
 use Rattle.netd_session.proofs.Causing.{caused_session}
+use Rattle.netd_session.proofs.Keeping.{session_in_order}
 use Rattle.netd_session.specs.Ending.{World}
 use Rattle.netd_session.specs.declared.status.Status.{Status}
 use Rattle.netd_session.specs.declared.status.Status.TheVariants as status
@@ -92,3 +94,10 @@ pub run_causes : OneForm → (words : List (List ℕ)) (old new : World) (s : St
 run_causes one words old new s (inl (run refuse breaks, is, does)) = ran one words refuse breaks old new s is does
 run_causes one words old new s (inr (inl (none, usage))) = told words old new s none usage
 run_causes one words old new s (inr (inr (is, same))) = wanting words old new s is same
+
+-- words of no form, and want of memory before anything was done, leave the kernel
+pub run_formed : (words : List (List ℕ)) (old new : World) (s : Status) → DoesRun words old new s → old.kernel.journal ≡ [] → AreWellFormed new.kernel.journal
+run_formed words old new s (inl (run refuse breaks, is, (turns, did))) none =
+    (session_in_order (with_lists old refuse breaks) new (record { status = s; turns = turns }) did none).formed
+run_formed words old new s (inr (inl (no_form, usage))) none = subst AreWellFormed (sym (ap (λ (w : World). w.kernel.journal) usage.rest ∙ none)) tt
+run_formed words old new s (inr (inr (is, same))) none = subst AreWellFormed (sym (ap (λ (w : World). w.kernel.journal) same ∙ none)) tt

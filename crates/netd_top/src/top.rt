@@ -1,5 +1,6 @@
 ghost use Rattle.std.specs.Prelude.{◌≡◌, false, [], map, string_bytes};
 ghost use Rattle.command_words.specs.View.{view_of};
+ghost use Rattle.kernel_model.specs.Form.{AreWellFormed};
 ghost use Rattle.net_io.specs.Streams.{CanCount};
 ghost use Rattle.netd_top.specs.Causes.{HasRunCauses};
 ghost use Rattle.netd_top.specs.Run.{DoesForm, DoesRun, TellsText};
@@ -88,6 +89,9 @@ pub fn run<S: Source, W: Sink, K: Armed>(
         (record { left = S.left source.old; read_faults = S.faults source.old; ended = S.ended source.old; written = W.written sink.old; write_faults = W.faults sink.old; kernel = K.seen kernel.old })
         (record { left = S.left source.new; read_faults = S.faults source.new; ended = S.ended source.new; written = W.written sink.new; write_faults = W.faults sink.new; kernel = K.seen kernel.new })
         result }
+
+    // whatever the words and the status, each request that was asked is one that can be said
+    ensures formed { AreWellFormed (K.seen kernel.new).journal }
 
     // why the status is this one, and what stands then
     ensures causes { HasRunCauses (map string_bytes words.now)

@@ -1,5 +1,5 @@
 -- Lists within a line, as they are printed.
-use Rattle.std.specs.Prelude.{ℕ, List, [], ◌∷◌, codes, map}
+use Rattle.std.specs.Prelude.{ℕ, List, [], ◌∷◌, codes}
 use Rattle.std.specs.List.{join_with_byte}
 
 -- ','

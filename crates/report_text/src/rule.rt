@@ -2,11 +2,11 @@ ghost use Rattle.number_text.specs.Appends.{Appends};
 ghost use Rattle.report_text.specs.RuleTexts.{incoming_part, mark_part, masked_text, outgoing_part, rule_text, selectors_text, uids_part};
 
 use crate::link::write_link;
-use crate::trail::{write_action, write_number};
+use crate::trail::write_action;
 use number_text::{append_byte, append_bytes};
 use policy_state::State;
 use rule_match::Rule;
-use script_reader::{write_mark, write_range};
+use script_reader::{write_mark, write_number, write_range};
 use std::alloc::AllocError;
 use uid_ranges::UidRange;
 

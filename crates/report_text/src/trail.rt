@@ -1,13 +1,13 @@
 ghost use Rattle.std.specs.Prelude.{◌≡◌, ◌<◌, Some, length, slice_get};
-ghost use Rattle.std.specs.Fmt.{decimal};
 ghost use Rattle.number_text.specs.Appends.{Appends};
 ghost use Rattle.report_text.specs.Actions.{action_text};
 ghost use Rattle.report_text.specs.Trails.{step_text, trail_text};
 
 use kernel_model::Step;
-use number_text::{append_byte, append_bytes, write_decimal};
+use number_text::{append_byte, append_bytes};
 use packet_trace::Trail;
 use rule_match::Action;
+use script_reader::write_number;
 use std::alloc::AllocError;
 
 /// Appends what a rule does.
@@ -22,13 +22,6 @@ pub fn write_action(action: Action, out: &mut Vec<u8>) -> Result<(), AllocError>
         Action::Prohibit => append_bytes(b"prohibit", out),
         Action::Unreachable => append_bytes(b"unreachable", out),
     }
-}
-
-/// Appends a number of 32 bits.
-pub fn write_number(number: u32, out: &mut Vec<u8>) -> Result<(), AllocError>
-    ensures { Appends out.old out.new result (decimal number) }
-{
-    write_decimal(u64::from(number), out)
 }
 
 /// Appends the line of a step.

@@ -36,7 +36,7 @@ use Rattle.rule_compile.proofs.Asks.{Asks, Rules, Comes, Goes, asked-come}
 use Rattle.rule_compile.proofs.Tables.{table-behind_own, table-once}
 
 -- what holds of the rules of a list in either family holds of what asks for them
-all-twins : (P : Request → Type 0) (rules : List Rule) → ((f : Family) (x : Rule) → has rule_kind rules x ≡ true → P (req.Rule f x)) → AllByRecursion P (twins rules)
+pub all-twins : (P : Request → Type 0) (rules : List Rule) → ((f : Family) (x : Rule) → has rule_kind rules x ≡ true → P (req.Rule f x)) → AllByRecursion P (twins rules)
 all-twins P [] h = tt
 all-twins P (r ∷ rs) h = (h family.V4 r here, (h family.V6 r here, all-twins P rs (λ f x there. h f x (behind x there))))
   where
@@ -50,11 +50,11 @@ pub twins-rules : (rules : List Rule) → AllByRecursion (λ q. is_route q ≡ f
 twins-rules rules = all-twins (λ q. is_route q ≡ false) rules (λ f x there. refl)
 
 -- what the other list lacks
-record IsBeyond (other rules : List Rule) (x : Rule) : Type 0 where
-  lacking : has rule_kind other x ≡ false
-  there : has rule_kind rules x ≡ true
+pub record IsBeyond (other rules : List Rule) (x : Rule) : Type 0 where
+  pub lacking : has rule_kind other x ≡ false
+  pub there : has rule_kind rules x ≡ true
 
-is_beyond : (other rules : List Rule) (x : Rule) → has rule_kind (beyond rule_kind other rules) x ≡ true → IsBeyond other rules x
+pub is_beyond : (other rules : List Rule) (x : Rule) → has rule_kind (beyond rule_kind other rules) x ≡ true → IsBeyond other rules x
 is_beyond other rules x h = elim (cases_Bool (has rule_kind other x)) [
   | inl t ↦ absurd (false≢true (sym (has_beyond rule_kind other rules x ∙ rw t refl) ∙ h))
   | inr t ↦ record { lacking = t; there = sym (has_beyond rule_kind other rules x ∙ rw t refl) ∙ h }

@@ -8,5 +8,6 @@ pub mod Levels
 pub mod Tables
 pub mod Asks
 pub mod Asking
+pub mod Forms
 pub mod Along
 pub mod Starting

@@ -2,6 +2,7 @@
 //! its statement.
 ghost use Rattle.std.specs.Prelude.{◌≡◌, ◌⊎◌, ◌++◌, ◌∷◌, [], ℕ, List, Some, true, false, length, slice_get, take};
 ghost use Rattle.std.specs.List.{AllByRecursion};
+ghost use Rattle.kernel_model.specs.Form.{IsWellFormed};
 ghost use Rattle.kernel_model.specs.Journal.{entry, replay_from};
 ghost use Rattle.kernel_model.specs.Same.{Distinct};
 ghost use Rattle.kernel_model.specs.Segment.{done, undone, IsSegment};
@@ -33,7 +34,7 @@ pub fn tables_are_lawful()
 {}
 
 /// What is asked can be asked: additions are of rules, or one of a route and no other; they are absent, deletions are
-/// present, and nothing is asked twice.
+/// present, nothing is asked twice, and each request is one that can be said.
 pub fn requests_can_be_asked()
     ensures one_kind { (s : StateView) (command : Command)
         → AllByRecursion (λ q. is_route q ≡ false) (asked_adds s command)
@@ -44,6 +45,8 @@ pub fn requests_can_be_asked()
         → AllByRecursion (λ q. is_present k q ≡ true) (asked_deletes s command) }
     ensures distinct { (k : KernelState) (s : StateView) (command : Command) → MayStep k s command
         → Distinct (asked_adds s command ++ asked_deletes s command) }
+    ensures well_formed { (k : KernelState) (s : StateView) (command : Command) → MayStep k s command
+        → AllByRecursion IsWellFormed (asked_adds s command) × AllByRecursion IsWellFormed (asked_deletes s command) }
 {}
 
 /// The plan law: while a command is carried out each packet goes where it went before, and from some moment on where it

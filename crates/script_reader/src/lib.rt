@@ -20,7 +20,7 @@ pub use laws::{canonical_text, one_column, one_line};
 pub use line::{Line, ShowLine, TraceLine};
 pub use print::print_line;
 pub use read::read_line;
-pub use write::{write_mark, write_permission, write_range, write_uid};
+pub use write::{write_mark, write_number, write_permission, write_range, write_uid};
 
 #[cfg(test)]
 mod tests;

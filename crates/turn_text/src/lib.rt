@@ -4,6 +4,6 @@
 mod texts;
 
 pub use texts::{
-    put_answer, write_bad_line, write_number, write_refused, write_start_halted,
+    put_answer, write_bad_line, write_line_number, write_refused, write_start_halted,
     write_start_refused,
 };

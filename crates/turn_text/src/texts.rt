@@ -40,7 +40,7 @@ fn write_words(answer: &Answer, out: &mut Vec<u8>) -> Result<(), AllocError>
 }
 
 /// Appends what a line's answer begins with: its number.
-pub fn write_number(number: u32, out: &mut Vec<u8>) -> Result<(), AllocError>
+pub fn write_line_number(number: u32, out: &mut Vec<u8>) -> Result<(), AllocError>
     ensures { Appends out.old out.new result (numbered number []) }
 {
     write_decimal(u64::from(number), out)?;

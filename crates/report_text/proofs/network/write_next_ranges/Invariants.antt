@@ -1,4 +1,4 @@
-use Rattle.std.proofs.Common.{◌-◌, ◌≤◌, Ok, ◌∷◌, drop, take}
+use Rattle.std.proofs.Common.{◌-◌, Ok, ◌∷◌, drop, take}
 use Rattle.std.specs.List.{flat_map}
 use Rattle.std.specs.declared.alloc.AllocError.{AllocError}
 use Rattle.number_text.specs.Appends.{Appends}

@@ -1,4 +1,4 @@
-use Rattle.std.proofs.Common.{ℕ, List, ◌∷◌, drop, sym}
+use Rattle.std.proofs.Common.{◌∷◌, drop, sym}
 use Rattle.std.specs.List.{flat_map}
 use Rattle.number_text.proofs.Appending.{both, first_failed, rewritten}
 use Rattle.script_reader.specs.Canonical.{range_text}

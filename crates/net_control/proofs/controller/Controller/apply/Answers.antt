@@ -5,6 +5,7 @@ use Rattle.policy_state.specs.Step.{changed}
 use Rattle.rule_compile.specs.Asked.{MayStep, carried}
 use Rattle.net_control.proofs.Bounding.{keeps_limit}
 use Rattle.net_control.proofs.Causing.{has_cause}
+use Rattle.net_control.proofs.Forming.{keeps_form}
 use Rattle.net_control.proofs.Policed.{accepted, answered, by_policy, locked, sends}
 use Rattle.net_control.proofs.controller.Controller.apply.Goals as goal
 
@@ -36,3 +37,13 @@ pub returns-clause-locked : goal.returns-clause-locked
 returns-clause-locked g c running =
     locked (g.K.Kernel.seen c.args.kernel.now) (g.K.Kernel.seen c.answer.new.kernel) c.args.self.now.state (changed c.args.self.now.state c.args.command.now)
     (λ s packet. c.barred_stays_in.ensures s packet) (returns-clause-moments g c running)
+
+pub returns-clause-formed : goal.returns-clause-formed
+returns-clause-formed g c =
+    let before = g.K.Kernel.seen c.args.kernel.now in
+    let old = c.args.self.now in
+    let command = c.args.command.now in
+    keeps_form c.answer.result command old c.answer.new.self before (g.K.Kernel.seen c.answer.new.kernel)
+    (λ taken. c.requests_can_be_asked.ensures.well_formed (state_of before) old.state command
+    (record { good = c.requires.good; fits = c.fits_types.ensures; accepted = accepted old before command taken; stands = c.requires.stands taken.runs }))
+    c.answer.ensures.answer

@@ -5,6 +5,7 @@ use Rattle.kernel_model.specs.Switch.{walk_along}
 use Rattle.kernel_model.specs.View.{state_of}
 use Rattle.kernel_model.specs.Walk.{walk}
 use Rattle.net_control.proofs.Causing.{has_start_cause}
+use Rattle.net_control.proofs.Forming.{start_formed}
 use Rattle.net_control.proofs.Policed.{begun, by_policy, started_sends}
 use Rattle.policy_meaning.specs.Policy.{policy}
 use Rattle.policy_state.proofs.Goodness.{good-start}
@@ -30,3 +31,6 @@ returns-clause-moments g c =
     (by_policy (c.own_rule_means_start.ensures packet) (c.table_means_policy.ensures start started packet good-start c.start_law.ensures.stands)
     (c.start_law.ensures.segment packet entries segment)))
     c.ask_start.ensures.answer
+
+pub returns-clause-formed : goal.returns-clause-formed
+returns-clause-formed g c = start_formed c.ask_start.result (g.K.Kernel.seen c.args.kernel.now) (g.K.Kernel.seen c.ask_start.new.kernel) c.ask_start.ensures.answer c.requires

@@ -14,6 +14,7 @@ returns-clause-answers g c =
         answered = c.apply-answer.ensures.answer;
         caused = c.apply-answer.ensures.caused;
         bounded = c.apply-answer.ensures.bounded;
+        formed = c.apply-answer.ensures.formed;
         says = c.in-Some.ensures.says;
         turns_are = ap (λ (end : ℕ). turn end ∷ []) c.entry_count.ensures;
         text = c.put_answer.ensures ∙ ap (λ (xs : List ℕ). xs ++ numbered c.args.number (answer_text c.apply-answer.result)) (c.reserve-2.ensures.items ∙ c.requires.empty);
