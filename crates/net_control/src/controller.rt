@@ -147,7 +147,7 @@ impl Controller {
         // at every moment between two requests
         ensures moments { KeepsPolicy (K.seen kernel.old) (K.seen kernel.new) start start }
 
-        // each request is one that can be said
+        // each request is well formed
         ensures formed { AreWellFormed (K.seen kernel.new).journal }
     {
         start_law();
@@ -239,7 +239,7 @@ impl Controller {
         // how much is asked
         ensures bounded { KeepsLimit self.old.state command.now (K.seen kernel.old) (K.seen kernel.new) }
 
-        // each request is one that can be said
+        // a journal of well formed requests stays one
         ensures formed { AreWellFormed (K.seen kernel.old).journal → AreWellFormed (K.seen kernel.new).journal }
 
         // at every moment between two requests, undoing and halts included

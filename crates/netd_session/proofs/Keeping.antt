@@ -42,7 +42,7 @@ show_stays (show.Rules family) n s e turns out is = is.0
 show_stays (show.Table number) n s e turns out is = is.0
 show_stays show.Networks n s e turns out is = is.0
 
--- what holds of a journal at every moment of a session
+-- what holds of the journal behind each line of a session
 pub record IsInOrder (k : KernelView) : Type 0 where
   pub few : length k.journal ≤ journal_limit
   pub formed : AreWellFormed k.journal

@@ -64,7 +64,7 @@ pub record HasCauses (old new : World) (s : Status) (given : List ℕ) (lines : 
   pub complete : NothingFailed old new given lines → (s ≡ status.Finished) ⊎ (s ≡ status.Memory)
   -- whatever the status, a journal that was empty stays within its limit
   pub bounded : old.kernel.journal ≡ [] → length new.kernel.journal ≤ journal_limit
-  -- and each request in it is one that can be said
+  -- and each request in it is well formed
   pub formed : old.kernel.journal ≡ [] → AreWellFormed new.kernel.journal
 
 -- the end of a session has a text, of which all was written

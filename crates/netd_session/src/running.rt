@@ -131,7 +131,7 @@ pub fn session<S: Source, W: Sink, K: Kernel>(
         (record { left = S.left source.new; read_faults = S.faults source.new; ended = S.ended source.new; written = W.written sink.new; write_faults = W.faults sink.new; kernel = K.seen kernel.new })
         result }
 
-    // whatever the status, each request that was asked is one that can be said
+    // whatever the status, each request that was asked is well formed
     ensures formed { AreWellFormed (K.seen kernel.new).journal }
 
     // why it ended so, and what stands then

@@ -90,7 +90,7 @@ pub fn run<S: Source, W: Sink, K: Armed>(
         (record { left = S.left source.new; read_faults = S.faults source.new; ended = S.ended source.new; written = W.written sink.new; write_faults = W.faults sink.new; kernel = K.seen kernel.new })
         result }
 
-    // whatever the words and the status, each request that was asked is one that can be said
+    // whatever the words and the status, each request that was asked is well formed
     ensures formed { AreWellFormed (K.seen kernel.new).journal }
 
     // why the status is this one, and what stands then

@@ -24,6 +24,7 @@ use Rattle.kernel_model.specs.PlanView.{PlanView}
 use Rattle.kernel_model.specs.Switch.{twins, additions, deletions, requests_of}
 use Rattle.kernel_model.specs.declared.request.Request.{Request}
 use Rattle.kernel_model.specs.declared.request.Request.TheVariants as req
+use Rattle.kernel_model.proofs.Alls.{all-append_parts}
 use Rattle.policy_state.specs.Step.{refusal, reasons, changed, with_net, with_link, with_route, without_route, with_permission, route_of, key_of, routes_at, of_link, is_in, is_net_unknown}
 use Rattle.policy_state.specs.Table.{rule_table, route_list, link_table, physical_links, routes_of_net}
 use Rattle.policy_state.specs.View.{StateView, IsGood, IsPhysical, link_named}
@@ -145,20 +146,16 @@ record Among (s : StateView) (net link : ℕ) (n : Network) : Type 0 where
   good_before : AllByRecursion IsNetwork stands.before
   good_behind : AllByRecursion IsNetwork stands.behind
 
-all-split : (P : Network → Type 0) (xs : List Network) (y : Network) (ys : List Network) → AllByRecursion P (xs ++ y ∷ ys) → AllByRecursion P xs × AllByRecursion P ys
-all-split P [] y ys h = (tt, h.1)
-all-split P (x ∷ xs) y ys h = let rest = all-split P xs y ys h.1 in ((h.0, rest.0), rest.1)
-
 among : (s : StateView) (net link : ℕ) (n : Network) → IsGood s → find_id net s.networks ≡ Some n → has_link n link ≡ true → Among s net link n
 among s net link n good found has =
     let stands : Standing net s.networks n = standing net s.networks n good.networks.keyed found in
-    let parts = all-split IsNetwork stands.before n stands.behind (subst (AllByRecursion IsNetwork) stands.is (all-networks s good)) in
+    let parts = all-append_parts IsNetwork stands.before (n ∷ stands.behind) (subst (AllByRecursion IsNetwork) stands.is (all-networks s good)) in
     record {
       stands = stands;
       physical = is_physical_there s good.networks net n found (not_local-linked s good.networks net n found link has);
       distinct = ap (λ ns. are_distinct (all_links ns)) (sym stands.is) ∙ good.networks.interfaces_distinct;
       good_before = parts.0;
-      good_behind = parts.1;
+      good_behind = parts.1.1;
     }
 
 module _ (s : StateView) (net link : ℕ) (n : Network) (it : Among s net link n) (has : has_link n link ≡ true) where

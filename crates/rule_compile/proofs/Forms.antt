@@ -18,7 +18,7 @@ use Rattle.prefixes.proofs.Sames.{eqb-refl, same_route-true}
 use Rattle.rule_law.specs.Rules.{has}
 use Rattle.rule_law.specs.Plans.{beyond}
 use Rattle.rule_match.specs.declared.rule.Rule.{Rule}
-use Rattle.kernel_model.specs.Form.{IsWellFormedRule, LeadsWell, IsWellFormed}
+use Rattle.kernel_model.specs.Form.{IsWellFormedRule, LeadsWell, IsWellFormedRoute, IsWellFormed}
 use Rattle.kernel_model.specs.Kind.{rule_kind}
 use Rattle.kernel_model.specs.Switch.{twins, additions, deletions}
 use Rattle.kernel_model.specs.declared.request.Request.{Request}
@@ -35,8 +35,8 @@ use Rattle.rule_compile.proofs.Asks.{Asks, Rules, Comes, Goes}
 
 -- the rules of a table
 
-bound-formed : (link : ℕ) → 2 ≤ link → (Some link ≡ Some 0) → ⊥
-bound-formed link two is = let zero_is : link ≡ 0 = cc in omega (arith, two, zero_is)
+not_link_zero : (link : ℕ) → 2 ≤ link → (Some link ≡ Some 0) → ⊥
+not_link_zero link two is = let zero_is : link ≡ 0 = cc in omega (arith, two, zero_is)
 
 -- an interface isn't link 0
 link_two : (s : StateView) (place : ℕ) (l : PhysicalLink) → IsGood s → slice_get (physical_links s) place ≡ Some l → 2 ≤ l.link
@@ -48,7 +48,7 @@ link_two s place l good at =
 level-formed : (s : StateView) (level : Level) (x : Rule) → IsGood s → is_among (rules_at s level) x ≡ true → IsWellFormedRule x
 level-formed s RootInterface x good h =
     let at : InRow root_interface_rule (physical_links s) x = in_row root_interface_rule (physical_links s) x h in
-    subst IsWellFormedRule (sym at.rule) (record { value = λ e. e; incoming = λ e. cc; outgoing = bound-formed at.item.link (link_two s at.place at.item good at.at) })
+    subst IsWellFormedRule (sym at.rule) (record { value = λ e. e; incoming = λ e. cc; outgoing = not_link_zero at.item.link (link_two s at.place at.item good at.at) })
 level-formed s Lockdown x good h =
     let at = in_row lockdown_rule s.lockdown x h in
     subst IsWellFormedRule (sym at.rule) (record { value = λ e. refl; incoming = λ e. cc; outgoing = λ e. cc })
@@ -58,7 +58,7 @@ level-formed s Explicit x good h = elim (in_row_or_last explicit_rule (physical_
 ]
 level-formed s BoundInterface x good h =
     let at : InRow bound_rule (physical_links s) x = in_row bound_rule (physical_links s) x h in
-    subst IsWellFormedRule (sym at.rule) (record { value = λ e. e; incoming = λ e. cc; outgoing = bound-formed at.item.link (link_two s at.place at.item good at.at) })
+    subst IsWellFormedRule (sym at.rule) (record { value = λ e. e; incoming = λ e. cc; outgoing = not_link_zero at.item.link (link_two s at.place at.item good at.at) })
 level-formed s LocalNetwork x good h = subst IsWellFormedRule (sym (is_only local_rule x h)) (record { value = λ e. refl; incoming = λ e. cc; outgoing = λ e. cc })
 level-formed s Implicit x good h =
     let at = in_row implicit_rule (filter is_free (physical_links s)) x h in
@@ -82,7 +82,7 @@ all-among P (y ∷ ys) x h all = elim (eqb_tells y x) [
   | inr (test, differs) ↦ all-among P ys x (rw test at h) all.1
 ]
 
-leads_well : (r : LinkRoute) → 2 ≤ r.link → LeadsOut r → LeadsWell r.route.prefix r.route.out
+leads_well : (r : LinkRoute) → 2 ≤ r.link → LeadsOut r → IsWellFormedRoute r.route
 leads_well r two leads = by r.route.out refl
   where
     by : (o : Out) → r.route.out ≡ o → LeadsWell r.route.prefix o
@@ -92,12 +92,12 @@ leads_well r two leads = by r.route.out refl
     by out.Throw is = tt
 
 abbrev IsWellRouted : ℕ × Route → Type 0
-IsWellRouted r = LeadsWell r.1.prefix r.1.out
+IsWellRouted r = IsWellFormedRoute r.1
 
 net-formed : (s : StateView) (place : ℕ) (n : Network) → IsGood s → slice_get s.networks place ≡ Some n → IsPhysical n → AllByRecursion IsWellRouted (routes_of_net n)
 net-formed s place n good at physical =
     all-mapped IsWellRouted (λ (r : LinkRoute). (table_of n.kind r.link, r.route)) n.routes
-    (all-from (λ (r : LinkRoute). LeadsWell r.route.prefix r.route.out) n.routes (λ i r there.
+    (all-from (λ (r : LinkRoute). IsWellFormedRoute r.route) n.routes (λ i r there.
     let belongs = all-at (λ r. (has_link n r.link ≡ true) × LeadsOut r) n.routes i r physical.routes_belong there in
     leads_well r (all-among (λ i. (2 ≤ i) × (list_any (λ l. l.index == i) s.links ≡ true)) n.interfaces r.link belongs.0
     (all-part (λ i. (2 ≤ i) × (list_any (λ l. l.index == i) s.links ≡ true)) (λ (n : Network). n.interfaces) s.networks place n good.networks.interfaces_are_links at)).0 belongs.1))
@@ -110,17 +110,17 @@ routes-formed s good =
       | inr physical ↦ net-formed s place n good at physical
     ]))
 
-table-formed : (n : ℕ) (routes : List (ℕ × Route)) → AllByRecursion IsWellRouted routes → AllByRecursion (λ (r : Route). LeadsWell r.prefix r.out) (routes_in n routes)
+table-formed : (n : ℕ) (routes : List (ℕ × Route)) → AllByRecursion IsWellRouted routes → AllByRecursion IsWellFormedRoute (routes_in n routes)
 table-formed n [] h = tt
 table-formed n (r ∷ rs) h = elim (cases_Bool (r.0 == n)) [
   | inl here ↦ rw here (h.0, table-formed n rs h.1)
   | inr other ↦ rw other (table-formed n rs h.1)
 ]
 
-route-formed : (routes : List Route) (r : Route) → has_route routes r ≡ true → AllByRecursion (λ (r : Route). LeadsWell r.prefix r.out) routes → LeadsWell r.prefix r.out
+route-formed : (routes : List Route) (r : Route) → has_route routes r ≡ true → AllByRecursion IsWellFormedRoute routes → IsWellFormedRoute r
 route-formed [] r h all = absurd (false≢true h)
 route-formed (x ∷ xs) r h all = elim (cases_Bool (same_route x r)) [
-  | inl here ↦ subst (λ (r : Route). LeadsWell r.prefix r.out) (same_route-true x r here) all.0
+  | inl here ↦ subst IsWellFormedRoute (same_route-true x r here) all.0
   | inr other ↦ route-formed xs r (rw other at h) all.1
 ]
 
@@ -142,9 +142,9 @@ pub adds-formed : (s : StateView) (c : Command) → IsGood s → IsGood (changed
 adds-formed s c good after (Rules it) = subst AreAllFormed (sym it.adds) (additions-formed s (changed s c) after)
 adds-formed s c good after (Comes it) =
     let here : routes_in it.table (route_list (changed s c)) ≡ routes_in it.table (route_list s) ++ it.route ∷ [] = it.routes it.table ∙ rw (eqb-refl it.table) refl in
-    let all : AllByRecursion (λ (r : Route). LeadsWell r.prefix r.out) (routes_in it.table (route_list s) ++ it.route ∷ []) =
-    subst (AllByRecursion (λ (r : Route). LeadsWell r.prefix r.out)) here (table-formed it.table (route_list (changed s c)) (routes-formed (changed s c) after)) in
-    subst AreAllFormed (sym it.adds) ((all-append_parts (λ (r : Route). LeadsWell r.prefix r.out) (routes_in it.table (route_list s)) (it.route ∷ []) all).1.0, tt)
+    let all : AllByRecursion IsWellFormedRoute (routes_in it.table (route_list s) ++ it.route ∷ []) =
+    subst (AllByRecursion IsWellFormedRoute) here (table-formed it.table (route_list (changed s c)) (routes-formed (changed s c) after)) in
+    subst AreAllFormed (sym it.adds) ((all-append_parts IsWellFormedRoute (routes_in it.table (route_list s)) (it.route ∷ []) all).1.0, tt)
 adds-formed s c good after (Goes it) = subst AreAllFormed (sym it.adds) tt
 
 pub deletes-formed : (s : StateView) (c : Command) → IsGood s → Asks s c → AreAllFormed (asked_deletes s c)

@@ -34,7 +34,7 @@ pub fn tables_are_lawful()
 {}
 
 /// What is asked can be asked: additions are of rules, or one of a route and no other; they are absent, deletions are
-/// present, nothing is asked twice, and each request is one that can be said.
+/// present, nothing is asked twice, and each request is well formed.
 pub fn requests_can_be_asked()
     ensures one_kind { (s : StateView) (command : Command)
         → AllByRecursion (λ q. is_route q ≡ false) (asked_adds s command)
