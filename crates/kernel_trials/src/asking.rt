@@ -1,10 +1,11 @@
 //! Asking a kernel request by request, where its contract allows it.
-ghost use Rattle.std.specs.Prelude.{◌≡◌, IfOk};
+ghost use Rattle.std.specs.Prelude.{◌≡◌, true, false, IfOk};
 ghost use Rattle.fib_table.specs.Table.{has_key, has_route};
 ghost use Rattle.kernel_model.specs.State.{rules_of, routes_of, has_rule, is_absent, is_present};
 ghost use Rattle.kernel_model.specs.View.{state_of};
+ghost use Rattle.kernel_trials.specs.Asking.{Asks, Enters};
 
-use kernel_model::{Kernel, Request, ask_delete};
+use kernel_model::{Kernel, Request, ask_add, ask_delete};
 use prefixes::{Family, Route, same_key, same_route};
 use rule_match::{Rule, same_rule};
 use std::alloc::{AllocError, Global};
@@ -80,24 +81,23 @@ fn is_present<K: Kernel>(alloc: Global, kernel: &K, request: &Request) -> Result
     }
 }
 
-fn add<K: Kernel>(alloc: Global, kernel: &mut K, request: &Request) -> Result<bool, AllocError> {
+fn add<K: Kernel>(alloc: Global, kernel: &mut K, request: &Request) -> Result<bool, AllocError>
+    ensures { Enters result (is_absent (state_of (K.seen kernel.old)) request.now) true request.now (K.seen kernel.old) (K.seen kernel.new) }
+{
     kernel.reserve(1)?;
     if !is_absent(alloc, kernel, request)? {
         return Ok(false);
     }
-    match request {
-        Request::Rule { family, rule } => {
-            let _ = kernel.add_rule(*family, rule);
-        }
-        Request::Route { table, route } => {
-            kernel.prepare(*table)?;
-            let _ = kernel.add_route(*table, route);
-        }
+    if let Request::Route { table, .. } = request {
+        kernel.prepare(*table)?;
     }
+    let _ = ask_add(kernel, request);
     Ok(true)
 }
 
-fn delete<K: Kernel>(alloc: Global, kernel: &mut K, request: &Request) -> Result<bool, AllocError> {
+fn delete<K: Kernel>(alloc: Global, kernel: &mut K, request: &Request) -> Result<bool, AllocError>
+    ensures { Enters result (is_present (state_of (K.seen kernel.old)) request.now) false request.now (K.seen kernel.old) (K.seen kernel.new) }
+{
     kernel.reserve(1)?;
     if !is_present(alloc, kernel, request)? {
         return Ok(false);
@@ -106,8 +106,10 @@ fn delete<K: Kernel>(alloc: Global, kernel: &mut K, request: &Request) -> Result
     Ok(true)
 }
 
-/// Asks for it, unless it is there already or isn't there to be deleted.
-pub fn ask<K: Kernel>(alloc: Global, kernel: &mut K, asked: &Asked) -> Result<bool, AllocError> {
+/// Asks for it, unless it is there already or isn't there to be deleted, and answers whether it was asked.
+pub fn ask<K: Kernel>(alloc: Global, kernel: &mut K, asked: &Asked) -> Result<bool, AllocError>
+    ensures { Asks asked.now result (K.seen kernel.old) (K.seen kernel.new) }
+{
     match asked {
         Asked::Add(request) => add(alloc, kernel, request),
         Asked::Delete(request) => delete(alloc, kernel, request),
