@@ -1,6 +1,7 @@
 -- What looking for the next line does.
-use Rattle.std.specs.Prelude.{◌≡◌, ◌⊎◌, ℕ, ◌+◌, ◌<◌, ◌≤◌, Bool, true, false, List, [], ◌++◌, take, drop, length, Option, Result, Ok, Err}
+use Rattle.std.specs.Prelude.{◌≡◌, ◌⊎◌, ℕ, ◌+◌, ◌<◌, ◌≤◌, Bool, true, false, List, [], ◌++◌, take, drop, length, Result, Ok, Err}
 use Rattle.std.specs.Io.KnownBytes.{Consumes, IsAtEnd}
+use Rattle.net_io.specs.Streams.{SourceView}
 use Rattle.line_input.specs.Lines.{IsOneLine, fed, line_limit, input_limit}
 use Rattle.line_input.specs.declared.input.Input.{Input}
 use Rattle.line_input.specs.declared.input.Met.{Met}
@@ -16,11 +17,8 @@ held input = drop input.at (take input.filled input.piece)
 abbrev pub line_of : Input → List ℕ
 line_of input = take input.length input.line
 
--- what contracts see of a source
-pub record Outside : Type 0 where
-  pub left : Option (List ℕ)
-  pub faults : ℕ
-  pub ended : Bool
+abbrev pub Outside : Type 0
+Outside = SourceView
 
 -- where the source has ended, it has no byte left
 abbrev pub NoneLeft : Outside → Type 0

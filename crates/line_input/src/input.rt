@@ -36,17 +36,17 @@ pub enum InputFault {
 
 // Reads at most so many bytes to the front of the piece.
 fn read_front<S: Source>(source: &mut S, piece: &mut [u8], most: usize) -> Result<usize, Failed>
-    requires count { CanCount (S.faults source.old) }
+    requires count { CanCount (S.seen source.old).faults }
     requires some { 0 < most }
     requires fits { most ≤ length piece.old }
     ensures bound { IfOk result (λ n. n ≤ most) }
-    ensures bytes { IfOk result (λ n. Consumes (S.left source.old) (S.left source.new) (take n piece.new)) }
-    ensures end { IfOk result (λ n. S.ended source.new ≡ (n == 0)) }
-    ensures none_left { IfOk result (λ n. n ≡ 0 → IsAtEnd (S.left source.new)) }
-    ensures kept { OnOk result (S.faults source.new ≡ S.faults source.old) }
-    ensures failed { OnErr result (S.faults source.old < S.faults source.new) }
-    ensures left { OnErr result (Keeps (S.left source.old) (S.left source.new)) }
-    ensures not_ended { OnErr result (S.ended source.new ≡ false) }
+    ensures bytes { IfOk result (λ n. Consumes (S.seen source.old).left (S.seen source.new).left (take n piece.new)) }
+    ensures end { IfOk result (λ n. (S.seen source.new).ended ≡ (n == 0)) }
+    ensures none_left { IfOk result (λ n. n ≡ 0 → IsAtEnd (S.seen source.new).left) }
+    ensures kept { OnOk result ((S.seen source.new).faults ≡ (S.seen source.old).faults) }
+    ensures failed { OnErr result ((S.seen source.old).faults < (S.seen source.new).faults) }
+    ensures left { OnErr result (Keeps (S.seen source.old).left (S.seen source.new).left) }
+    ensures not_ended { OnErr result ((S.seen source.new).ended ≡ false) }
 {
     source.read(&mut piece[..most])
 }
@@ -115,14 +115,14 @@ impl Input {
 
     // Asks for a piece, where no byte is held.
     fn fill<S: Source>(&mut self, source: &mut S) -> Result<usize, InputFault>
-        requires count { CanCount (S.faults source.old) }
+        requires count { CanCount (S.seen source.old).faults }
         requires none { self.old.at ≡ self.old.filled }
         requires goes_on { self.old.finished ≡ false }
         requires within { self.old.given ≤ input_limit }
-        requires end { self.old.finished ≡ S.ended source.old }
+        requires end { self.old.finished ≡ (S.seen source.old).ended }
         ensures { Fills self.old self.new
-            (record { left = S.left source.old; faults = S.faults source.old; ended = S.ended source.old })
-            (record { left = S.left source.new; faults = S.faults source.new; ended = S.ended source.new }) result }
+            (S.seen source.old)
+            (S.seen source.new) result }
     {
         let most = PIECE.min((INPUT_LIMIT - self.given).max(1));
         match read_front(source, &mut self.piece, most) {
@@ -156,13 +156,13 @@ impl Input {
 
     // Takes the next byte, or none at the end of the input.
     fn next_byte<S: Source>(&mut self, source: &mut S) -> Result<Option<u8>, InputFault>
-        requires count { CanCount (S.faults source.old) }
+        requires count { CanCount (S.seen source.old).faults }
         requires within { self.old.given ≤ input_limit }
-        requires end { self.old.finished ≡ S.ended source.old }
-        requires none_left { S.ended source.old ≡ true → IsAtEnd (S.left source.old) }
+        requires end { self.old.finished ≡ (S.seen source.old).ended }
+        requires none_left { (S.seen source.old).ended ≡ true → IsAtEnd (S.seen source.old).left }
         ensures { Takes self.old self.new
-            (record { left = S.left source.old; faults = S.faults source.old; ended = S.ended source.old })
-            (record { left = S.left source.new; faults = S.faults source.new; ended = S.ended source.new }) result }
+            (S.seen source.old)
+            (S.seen source.new) result }
     {
         if self.at < self.filled {
             return Ok(Some(self.take_held()));
@@ -190,13 +190,13 @@ impl Input {
 
     /// Looks for the next line. The line that was met before is given up.
     pub fn next_line<S: Source>(&mut self, source: &mut S) -> Result<Met, InputFault>
-        requires count { CanCount (S.faults source.old) }
+        requires count { CanCount (S.seen source.old).faults }
         requires within { self.old.given ≤ input_limit }
-        requires end { self.old.finished ≡ S.ended source.old }
-        requires none_left { S.ended source.old ≡ true → IsAtEnd (S.left source.old) }
+        requires end { self.old.finished ≡ (S.seen source.old).ended }
+        requires none_left { (S.seen source.old).ended ≡ true → IsAtEnd (S.seen source.old).left }
         ensures { Looks (held self.old) self.old.given self.new
-            (record { left = S.left source.old; faults = S.faults source.old; ended = S.ended source.old })
-            (record { left = S.left source.new; faults = S.faults source.new; ended = S.ended source.new }) result }
+            (S.seen source.old)
+            (S.seen source.new) result }
     {
         self.length = 0;
         while self.length <= LINE_LIMIT {

@@ -35,7 +35,7 @@ module _ (adds deletes : List Request) (old new : KernelView) where
   done_broke : new ≡ grown old (done adds deletes) → BrokeNone old new
   done_broke grew = omega (arith, breaks_are old new (done adds deletes) [] grew (broken-done adds deletes))
 
-  undone_refused : (k : ℕ) (es : List Entry) → IsUndoneAt adds k es → new ≡ grown old es → RefusedSome old new
+  pub undone_refused : (k : ℕ) (es : List Entry) → IsUndoneAt adds k es → new ≡ grown old es → RefusedSome old new
   undone_refused k es is grew = omega (arith, refusals_are old new es (entry Refused is.refused ∷ []) grew (ap (filter is_refused) is.all ∙ refused-undone adds k is.refused))
 
   undone_broke : (k : ℕ) (es : List Entry) → IsUndoneAt adds k es → new ≡ grown old es → BrokeNone old new
@@ -54,7 +54,7 @@ not_again old runs request is = absurd (none-some request (sym runs ∙ is))
 broke_both : {A : Type 0} (before after : KernelView) → BrokeSome before after → BrokeNone before after → A
 broke_both before after some none = absurd (omega (arith, some, none))
 
-refused_both : {A : Type 0} (before after : KernelView) → RefusedSome before after → RefusedNone before after → A
+pub refused_both : {A : Type 0} (before after : KernelView) → RefusedSome before after → RefusedNone before after → A
 refused_both before after some none = absurd (omega (arith, some, none))
 
 -- an answer by which the controller ran and nothing broke

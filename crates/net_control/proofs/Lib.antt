@@ -3,3 +3,4 @@ pub mod Causing
 pub mod Policed
 pub mod Bounding
 pub mod Forming
+pub mod Once

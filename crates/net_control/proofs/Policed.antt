@@ -92,7 +92,7 @@ begun (Err (fault.Halted q)) before after means goes is = record { entries = is.
 begun (Err (fault.Memory e)) before after means goes is = stays before after start start means is
 
 -- each moment has the one value or the other
-at_each : {last : ℕ} {at : ℕ → Verdict} {old new : Verdict} → GoesOverAndBack last at old new → (i : ℕ) → i ≤ last → (at i ≡ old) ⊎ (at i ≡ new)
+pub at_each : {last : ℕ} {at : ℕ → Verdict} {old new : Verdict} → GoesOverAndBack last at old new → (i : ℕ) → i ≤ last → (at i ≡ old) ⊎ (at i ≡ new)
 at_each {last} {at} {old} {new} goes i within = elim (cases_lt i goes.over) as (λ _. (at i ≡ old) ⊎ (at i ≡ new)) [
   | inl front ↦ inl (goes.before i within front)
   | inr over ↦ elim (cases_lt i goes.back) as (λ _. (at i ≡ old) ⊎ (at i ≡ new)) [
@@ -102,7 +102,7 @@ at_each {last} {at} {old} {new} goes i within = elim (cases_lt i goes.over) as (
 ]
 
 -- the journal grew by these entries alone
-same_entries : (before after : KernelView) (xs ys : List Entry) → after ≡ grown before xs → after ≡ grown before ys → xs ≡ ys
+pub same_entries : (before after : KernelView) (xs ys : List Entry) → after ≡ grown before xs → after ≡ grown before ys → xs ≡ ys
 same_entries before after xs ys is same = append_cancel_left before.journal xs ys (ap (λ (k : KernelView). k.journal) (sym is ∙ same))
 
 -- what lockdown promises of the policy

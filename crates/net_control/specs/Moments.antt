@@ -4,11 +4,14 @@ use Rattle.kernel_model.specs.Switch.{walk_along}
 use Rattle.kernel_model.specs.View.{KernelView, grown, state_of}
 use Rattle.kernel_model.specs.Walk.{walk}
 use Rattle.kernel_model.specs.declared.request.Entry.{Entry}
+use Rattle.net_control.specs.Causes.{RefusedNone}
 use Rattle.net_control.specs.View.{ControllerView}
+use Rattle.net_control.specs.declared.controller.Answer.{Answer}
+use Rattle.net_control.specs.declared.controller.Answer.TheVariants as answer
 use Rattle.policy_meaning.specs.Policy.{IsBarred, policy}
 use Rattle.policy_meaning.specs.Promise.{StaysIn}
 use Rattle.policy_state.specs.View.{StateView}
-use Rattle.rule_law.specs.Plans.{GoesOverAndBack}
+use Rattle.rule_law.specs.Plans.{GoesOver, GoesOverAndBack}
 use Rattle.rule_match.specs.declared.packet.Packet.{Packet}
 
 -- Unless the controller has halted, the kernel's rules send every packet where the policy of its state does, and what a
@@ -32,3 +35,14 @@ KeepsLockdown before after old new =
     (entries : List Entry) → after ≡ grown before entries
     → (packet : Packet) → IsBarred old packet → IsBarred new packet → packet.uid.number ≢ 0
     → (i : ℕ) → i ≤ length entries → StaysIn (walk_along (state_of before) packet entries i)
+
+-- One switch: where no addition was refused, each packet goes over once at most and never back, also where a deletion
+-- broke on the way.
+abbrev pub GoesOnce : (before after : KernelView) (old new : StateView) → Type 0
+GoesOnce before after old new =
+    RefusedNone before after → (entries : List Entry) → after ≡ grown before entries
+    → (packet : Packet) → GoesOver (length entries) (walk_along (state_of before) packet entries) (policy old packet) (policy new packet)
+
+-- After a refusal by the kernel its rules, their order and its tables are the very ones from before.
+abbrev pub IsAsBefore : Answer → (before after : KernelView) → Type 0
+IsAsBefore a before after = (request : ℕ) → a ≡ answer.KernelRefused request → state_of after ≡ state_of before

@@ -100,7 +100,7 @@ impl Controller {
     ghost use Rattle.net_control.specs.View.{IsKept};
     ghost use Rattle.net_control.specs.Bounds.{KeepsLimit};
     ghost use Rattle.net_control.specs.Causes.{HasCause, HasStartCause};
-    ghost use Rattle.net_control.specs.Moments.{KeepsLockdown, KeepsPolicy, SendsByPolicy};
+    ghost use Rattle.net_control.specs.Moments.{GoesOnce, IsAsBefore, KeepsLockdown, KeepsPolicy, SendsByPolicy};
     ghost use Rattle.policy_state.specs.Step.{changed};
 
     // Asks for the rules of the first state.
@@ -245,6 +245,12 @@ impl Controller {
         // at every moment between two requests, undoing and halts included
         ensures moments { self.old.halted ≡ None → KeepsPolicy (K.seen kernel.old) (K.seen kernel.new) self.old.state (changed self.old.state command.now) }
         ensures locked { self.old.halted ≡ None → KeepsLockdown (K.seen kernel.old) (K.seen kernel.new) self.old.state (changed self.old.state command.now) }
+
+        // one switch, where nothing was undone
+        ensures once { self.old.halted ≡ None → GoesOnce (K.seen kernel.old) (K.seen kernel.new) self.old.state (changed self.old.state command.now) }
+
+        // after a refusal by the kernel its rules, their order and its tables are the very ones from before
+        ensures as_before { IsAsBefore result (K.seen kernel.old) (K.seen kernel.new) }
     {
         command.fits_types();
         requests_can_be_asked();

@@ -70,11 +70,7 @@ impl MemSource {
 }
 
 impl Source for MemSource {
-    ghost left = { λ s. Some s.rest };
-
-    ghost faults = { λ s. s.faults };
-
-    ghost ended = { λ s. s.ended };
+    ghost seen = { λ s. record { left = Some s.rest; faults = s.faults; ended = s.ended } };
 
     fn read(&mut self, room: &mut [u8]) -> Result<usize, Failed>
         requires { CanCount self.old.faults }
@@ -156,9 +152,7 @@ impl MemSink {
 }
 
 impl Sink for MemSink {
-    ghost written = { λ s. Some s.bytes };
-
-    ghost faults = { λ s. s.faults };
+    ghost seen = { λ s. record { bytes = Some s.bytes; faults = s.faults } };
 
     fn write(&mut self, piece: &[u8]) -> Result<usize, WriteFault>
         requires { CanCount self.old.faults }

@@ -27,11 +27,7 @@ impl<R: Read> StdSource<R> {
 }
 
 impl<R: Read> Source for StdSource<R> {
-    ghost left = { λ s. R.remaining s.reader };
-
-    ghost faults = { λ s. s.faults };
-
-    ghost ended = { λ s. s.ended };
+    ghost seen = { λ s. record { left = R.remaining s.reader; faults = s.faults; ended = s.ended } };
 
     fn read(&mut self, room: &mut [u8]) -> Result<usize, Failed> {
         match self.reader.read(room) {
@@ -72,9 +68,7 @@ impl<W: Write> StdSink<W> {
 }
 
 impl<W: Write> Sink for StdSink<W> {
-    ghost written = { λ s. W.contents s.writer };
-
-    ghost faults = { λ s. s.faults };
+    ghost seen = { λ s. record { bytes = W.contents s.writer; faults = s.faults } };
 
     fn write(&mut self, piece: &[u8]) -> Result<usize, WriteFault> {
         match self.writer.write(piece) {

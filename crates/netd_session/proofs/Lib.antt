@@ -3,3 +3,5 @@ pub mod Taking
 pub mod Starting
 pub mod Keeping
 pub mod Causing
+pub mod Histories
+pub mod Listing

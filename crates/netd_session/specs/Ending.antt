@@ -2,6 +2,7 @@
 use Rattle.std.specs.Prelude.{◌≡◌, ◌⊎◌, ℕ, ◌+◌, ◌<◌, ◌≤◌, true, Bool, List, [], ◌∷◌, ◌++◌, length, take, Option, None}
 use Rattle.std.specs.Io.KnownBytes.{Consumes, Appends, IsAtEnd}
 use Rattle.line_input.specs.Lines.{AreMet, input_limit}
+use Rattle.net_io.specs.Streams.{SinkView, SourceView}
 use Rattle.kernel_model.specs.View.{KernelView}
 use Rattle.net_control.specs.Moments.{KeepsPolicy, SendsByPolicy}
 use Rattle.net_control.specs.Started.{IsStarted}
@@ -24,6 +25,9 @@ pub record World : Type 0 where
   pub written : Option (List ℕ)
   pub write_faults : ℕ
   pub kernel : KernelView
+
+abbrev pub world : SourceView → SinkView → KernelView → World
+world source sink kernel = record { left = source.left; read_faults = source.faults; ended = source.ended; written = sink.bytes; write_faults = sink.faults; kernel = kernel }
 
 -- a fault of the source has its status, and no other status has one
 abbrev pub HasReadFault : Status → (old new : ℕ) → Type 0

@@ -9,3 +9,4 @@ pub mod Ending
 pub mod Coming
 pub mod Starts
 pub mod Causes
+pub mod History

@@ -1,13 +1,12 @@
 -- What offering some bytes to a sink does, until it has taken them all.
-use Rattle.std.specs.Prelude.{◌≡◌, ℕ, ◌<◌, List, take, length, Option, Result, Ok, Err}
+use Rattle.std.specs.Prelude.{◌≡◌, ℕ, ◌<◌, List, take, length, Result, Ok, Err}
 use Rattle.std.specs.Io.KnownBytes.{Appends}
+use Rattle.net_io.specs.Streams.{SinkView}
 use Rattle.net_io.specs.declared.streams.WriteFault.{WriteFault}
 use Rattle.net_io.specs.declared.streams.WriteFault.TheVariants as fault
 
--- what contracts see of a sink
-pub record Written : Type 0 where
-  pub bytes : Option (List ℕ)
-  pub faults : ℕ
+abbrev pub Written : Type 0
+Written = SinkView
 
 -- all of the bytes were taken; or some front of them, and then the sink failed or wanted memory
 abbrev pub IsOffered : Result (Unit {0}) WriteFault → (count whole : ℕ) → (old new : ℕ) → Type 0

@@ -17,7 +17,7 @@ use Rattle.policy_state.specs.declared.command.Command.{Command}
 use Rattle.net_control.specs.Applied.{IsAnswered}
 use Rattle.net_control.specs.Bounds.{KeepsLimit}
 use Rattle.net_control.specs.Causes.{HasCause}
-use Rattle.net_control.specs.Moments.{KeepsLockdown, KeepsPolicy, SendsByPolicy}
+use Rattle.net_control.specs.Moments.{GoesOnce, IsAsBefore, KeepsLockdown, KeepsPolicy, SendsByPolicy}
 use Rattle.net_control.specs.View.{ControllerView, IsKept}
 use Rattle.net_control.specs.declared.controller.Answer.{Answer}
 use Rattle.script_reader.specs.Lines.{Spells}
@@ -62,6 +62,9 @@ pub record IsCommanded (command : Command) (n : ℕ) (s e : Standing) (turns : L
   pub text : out ≡ numbered n (answer_text a)
   pub moments : KeepsPolicy s.kernel e.kernel s.controller.state (changed s.controller.state command)
   pub locked : KeepsLockdown s.kernel e.kernel s.controller.state (changed s.controller.state command)
+  -- one switch where nothing was undone, and the very kernel after a refusal by it
+  pub once : GoesOnce s.kernel e.kernel s.controller.state (changed s.controller.state command)
+  pub as_before : IsAsBefore a s.kernel e.kernel
 
 -- a line that changes nothing, by what it says and by its text
 abbrev pub IsTold : Said → List ℕ → ℕ → (s e : Standing) → List Turn → List ℕ → Type 0

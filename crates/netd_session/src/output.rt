@@ -6,9 +6,9 @@ use net_io::{Sink, WriteFault};
 
 /// Offers the piece, and what isn't taken again, until all of it is taken.
 pub fn offer<W: Sink>(sink: &mut W, piece: &[u8]) -> Result<(), WriteFault>
-    requires { CanCount (W.faults sink.old) }
-    ensures { Offers (record { bytes = W.written sink.old; faults = W.faults sink.old })
-        (record { bytes = W.written sink.new; faults = W.faults sink.new }) piece.now result }
+    requires { CanCount (W.seen sink.old).faults }
+    ensures { Offers (W.seen sink.old)
+        (W.seen sink.new) piece.now result }
 {
     let mut at = 0;
     while at < piece.len() {

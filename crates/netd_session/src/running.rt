@@ -1,11 +1,13 @@
-ghost use Rattle.std.specs.Prelude.{◌≡◌, false, [], None};
+ghost use Rattle.std.specs.Prelude.{◌≡◌, ◌≤◌, false, [], None, length};
 ghost use Rattle.net_io.specs.Streams.{CanCount};
 ghost use Rattle.kernel_model.specs.Form.{AreWellFormed};
 ghost use Rattle.kernel_model.specs.View.{KernelView};
+ghost use Rattle.net_control.specs.Limit.{journal_limit};
 ghost use Rattle.net_control.specs.Moments.{SendsByPolicy};
 ghost use Rattle.net_control.specs.View.{IsKept};
 ghost use Rattle.netd_session.specs.Causes.{IsCausedSession};
-ghost use Rattle.netd_session.specs.Ending.{HasBegun, IsSession};
+ghost use Rattle.netd_session.specs.Ending.{HasBegun, IsSession, world};
+ghost use Rattle.netd_session.specs.History.{HasHistory};
 ghost use Rattle.netd_session.specs.Talks.{standing};
 ghost use Rattle.netd_session.specs.Starts.{TellsStart};
 
@@ -17,6 +19,7 @@ use kernel_model::Kernel;
 use line_input::{Input, InputFault, Met};
 use net_control::{Controller, StartFault};
 use net_io::{Sink, Source, WriteFault};
+use policy_meaning::own_rule_means_start;
 use std::alloc::Global;
 use turn_text::{write_start_halted, write_start_refused};
 
@@ -26,8 +29,8 @@ const START_ROOM: usize = 64;
 // Tells why the start failed, in the room that was taken before it.
 fn tell_start<W: Sink>(fault: StartFault, mut text: Vec<u8>, sink: &mut W) -> Status
     requires empty { text.items ≡ [] }
-    requires writes { CanCount (W.faults sink.old) }
-    ensures { TellsStart fault result (record { bytes = W.written sink.old; faults = W.faults sink.old }) (record { bytes = W.written sink.new; faults = W.faults sink.new }) }
+    requires writes { CanCount (W.seen sink.old).faults }
+    ensures { TellsStart fault result (W.seen sink.old) (W.seen sink.new) }
 {
     let (status, wrote) = match fault {
         StartFault::Refused { request } => (
@@ -54,16 +57,16 @@ fn answer_lines<S: Source, W: Sink, K: Kernel>(
     kernel: &mut K,
     talk: &mut Talk,
 ) -> Status
-    requires reads { CanCount (S.faults source.old) }
-    requires writes { CanCount (W.faults sink.old) }
-    requires not_ended { S.ended source.old ≡ false }
+    requires reads { CanCount (S.seen source.old).faults }
+    requires writes { CanCount (W.seen sink.old).faults }
+    requires not_ended { (S.seen source.old).ended ≡ false }
     requires kept { IsKept talk.old.controller (K.seen kernel.old) }
     requires sends { SendsByPolicy talk.old.controller (K.seen kernel.old) }
     requires runs { talk.old.controller.halted ≡ None }
     requires no_turn { talk.old.turns.items ≡ [] }
     ensures { (before : KernelView) → HasBegun before (standing talk.old.controller (K.seen kernel.old)) → IsSession
-        (record { left = S.left source.old; read_faults = S.faults source.old; ended = S.ended source.old; written = W.written sink.old; write_faults = W.faults sink.old; kernel = before })
-        (record { left = S.left source.new; read_faults = S.faults source.new; ended = S.ended source.new; written = W.written sink.new; write_faults = W.faults sink.new; kernel = K.seen kernel.new })
+        (world (S.seen source.old) (W.seen sink.old) before)
+        (world (S.seen source.new) (W.seen sink.new) (K.seen kernel.new))
         (record { status = result; turns = talk.new.turns.items }) }
 {
     let mut input = Input::new();
@@ -93,12 +96,12 @@ fn begin<S: Source, W: Sink, K: Kernel>(
     kernel: &mut K,
 ) -> Ended
     requires starting { (K.seen kernel.old).journal ≡ [] }
-    requires reads { CanCount (S.faults source.old) }
-    requires writes { CanCount (W.faults sink.old) }
-    requires not_ended { S.ended source.old ≡ false }
+    requires reads { CanCount (S.seen source.old).faults }
+    requires writes { CanCount (W.seen sink.old).faults }
+    requires not_ended { (S.seen source.old).ended ≡ false }
     ensures { IsSession
-        (record { left = S.left source.old; read_faults = S.faults source.old; ended = S.ended source.old; written = W.written sink.old; write_faults = W.faults sink.old; kernel = K.seen kernel.old })
-        (record { left = S.left source.new; read_faults = S.faults source.new; ended = S.ended source.new; written = W.written sink.new; write_faults = W.faults sink.new; kernel = K.seen kernel.new })
+        (world (S.seen source.old) (W.seen sink.old) (K.seen kernel.old))
+        (world (S.seen source.new) (W.seen sink.new) (K.seen kernel.new))
         result }
 {
     let Ok(text) = Vec::with_capacity(alloc, START_ROOM) else {
@@ -123,22 +126,30 @@ pub fn session<S: Source, W: Sink, K: Kernel>(
     kernel: &mut K,
 ) -> Ended
     requires starting { (K.seen kernel.old).journal ≡ [] }
-    requires reads { CanCount (S.faults source.old) }
-    requires writes { CanCount (W.faults sink.old) }
-    requires not_ended { S.ended source.old ≡ false }
+    requires reads { CanCount (S.seen source.old).faults }
+    requires writes { CanCount (W.seen sink.old).faults }
+    requires not_ended { (S.seen source.old).ended ≡ false }
     ensures session { IsSession
-        (record { left = S.left source.old; read_faults = S.faults source.old; ended = S.ended source.old; written = W.written sink.old; write_faults = W.faults sink.old; kernel = K.seen kernel.old })
-        (record { left = S.left source.new; read_faults = S.faults source.new; ended = S.ended source.new; written = W.written sink.new; write_faults = W.faults sink.new; kernel = K.seen kernel.new })
+        (world (S.seen source.old) (W.seen sink.old) (K.seen kernel.old))
+        (world (S.seen source.new) (W.seen sink.new) (K.seen kernel.new))
         result }
 
     // whatever the status, each request that was asked is well formed
     ensures formed { AreWellFormed (K.seen kernel.new).journal }
+    ensures limited { length (K.seen kernel.new).journal ≤ journal_limit }
+
+    // the whole journal, moment by moment
+    ensures history { HasHistory
+        (world (S.seen source.old) (W.seen sink.old) (K.seen kernel.old))
+        (world (S.seen source.new) (W.seen sink.new) (K.seen kernel.new))
+        result }
 
     // why it ended so, and what stands then
     ensures causes { IsCausedSession
-        (record { left = S.left source.old; read_faults = S.faults source.old; ended = S.ended source.old; written = W.written sink.old; write_faults = W.faults sink.old; kernel = K.seen kernel.old })
-        (record { left = S.left source.new; read_faults = S.faults source.new; ended = S.ended source.new; written = W.written sink.new; write_faults = W.faults sink.new; kernel = K.seen kernel.new })
+        (world (S.seen source.old) (W.seen sink.old) (K.seen kernel.old))
+        (world (S.seen source.new) (W.seen sink.new) (K.seen kernel.new))
         result }
 {
+    own_rule_means_start();
     begin(alloc, source, sink, kernel)
 }

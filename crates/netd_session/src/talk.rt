@@ -138,9 +138,9 @@ impl Talk {
 
     // Offers the answer to a line. Where the controller has halted, that is the end.
     fn offer_answer<W: Sink>(&self, sink: &mut W) -> Option<Status>
-        requires { CanCount (W.faults sink.old) }
+        requires { CanCount (W.seen sink.old).faults }
         ensures { OffersAnswer result self.now.controller.halted self.now.answer.items
-            (record { bytes = W.written sink.old; faults = W.faults sink.old }) (record { bytes = W.written sink.new; faults = W.faults sink.new }) }
+            (W.seen sink.old) (W.seen sink.new) }
     {
         match offer(sink, &self.answer) {
             Ok(()) => match self.controller.halted() {
@@ -154,10 +154,10 @@ impl Talk {
 
     // Tells that a line is bad, which is the end.
     fn offer_bad_line<W: Sink>(&mut self, number: u32, column: u32, sink: &mut W) -> Status
-        requires count { CanCount (W.faults sink.old) }
+        requires count { CanCount (W.seen sink.old).faults }
         requires empty { self.old.answer.items ≡ [] }
         ensures offered { OffersBad result (numbered number (bad_text column))
-            (record { bytes = W.written sink.old; faults = W.faults sink.old }) (record { bytes = W.written sink.new; faults = W.faults sink.new }) }
+            (W.seen sink.old) (W.seen sink.new) }
         ensures turns { self.new.turns.items ≡ self.old.turns.items }
         ensures controller { self.new.controller ≡ self.old.controller }
     {
@@ -179,12 +179,12 @@ impl Talk {
         sink: &mut W,
         kernel: &mut K,
     ) -> Option<Status>
-        requires count { CanCount (W.faults sink.old) }
+        requires count { CanCount (W.seen sink.old).faults }
         requires kept { IsKept self.old.controller (K.seen kernel.old) }
         requires sends { SendsByPolicy self.old.controller (K.seen kernel.old) }
         requires runs { self.old.controller.halted ≡ None }
         ensures takes { Takes result text.now number (standing self.old.controller (K.seen kernel.old)) (standing self.new.controller (K.seen kernel.new)) self.old.turns.items self.new.turns.items
-            (record { bytes = W.written sink.old; faults = W.faults sink.old }) (record { bytes = W.written sink.new; faults = W.faults sink.new }) }
+            (W.seen sink.old) (W.seen sink.new) }
         ensures kept { IsKept self.new.controller (K.seen kernel.new) }
         ensures sends { SendsByPolicy self.new.controller (K.seen kernel.new) }
     {

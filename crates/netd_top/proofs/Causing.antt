@@ -1,8 +1,9 @@
 -- Why the program ends as it does.
-use Rattle.std.proofs.Common.{◌≡◌, ◌∙◌, ◌⊎◌, ◌↔◌, ℕ, ◌<◌, List, [], length, inl, inr, refl, sym, ap, subst, arith}
+use Rattle.std.proofs.Common.{◌≡◌, ◌∙◌, ◌⊎◌, ◌↔◌, ℕ, ◌<◌, ◌≤◌, List, [], length, inl, inr, refl, sym, ap, subst, arith}
 use Rattle.command_words.specs.Forms.{FormView, IsForm, run}
 use Rattle.kernel_model.specs.Form.{AreWellFormed}
 use Rattle.kernel_model.specs.View.{breaks_of}
+use Rattle.net_control.specs.Limit.{journal_limit}
 use Rattle.netd_session.proofs.Causing.{caused_session}
 use Rattle.netd_session.proofs.Keeping.{session_in_order}
 use Rattle.netd_session.specs.Ending.{World}
@@ -101,3 +102,9 @@ run_formed words old new s (inl (run refuse breaks, is, (turns, did))) none =
     (session_in_order (with_lists old refuse breaks) new (record { status = s; turns = turns }) did none).formed
 run_formed words old new s (inr (inl (no_form, usage))) none = subst AreWellFormed (sym (ap (λ (w : World). w.kernel.journal) usage.rest ∙ none)) tt
 run_formed words old new s (inr (inr (is, same))) none = subst AreWellFormed (sym (ap (λ (w : World). w.kernel.journal) same ∙ none)) tt
+
+pub run_limited : (words : List (List ℕ)) (old new : World) (s : Status) → DoesRun words old new s → old.kernel.journal ≡ [] → length new.kernel.journal ≤ journal_limit
+run_limited words old new s (inl (run refuse breaks, is, (turns, did))) none =
+    (session_in_order (with_lists old refuse breaks) new (record { status = s; turns = turns }) did none).few
+run_limited words old new s (inr (inl (no_form, usage))) none = omega (arith, ap (λ (w : World). length w.kernel.journal) usage.rest, ap length none)
+run_limited words old new s (inr (inr (is, same))) none = omega (arith, ap (λ (w : World). length w.kernel.journal) same, ap length none)

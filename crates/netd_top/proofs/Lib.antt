@@ -1,1 +1,3 @@
 pub mod Causing
+pub mod Histories
+pub mod Listing

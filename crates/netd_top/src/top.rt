@@ -1,20 +1,24 @@
-ghost use Rattle.std.specs.Prelude.{◌≡◌, false, [], map, string_bytes};
+ghost use Rattle.std.specs.Prelude.{◌≡◌, ◌≤◌, false, [], length, map, string_bytes};
 ghost use Rattle.command_words.specs.View.{view_of};
 ghost use Rattle.kernel_model.specs.Form.{AreWellFormed};
+ghost use Rattle.net_control.specs.Limit.{journal_limit};
 ghost use Rattle.net_io.specs.Streams.{CanCount};
+ghost use Rattle.netd_session.specs.Ending.{world};
 ghost use Rattle.netd_top.specs.Causes.{HasRunCauses};
+ghost use Rattle.netd_top.specs.History.{FailsWhereListed, HasRunHistory};
 ghost use Rattle.netd_top.specs.Run.{DoesForm, DoesRun, TellsText};
 
 use command_words::{Form, WordsFault, one_form, read_words, usage};
 use kernel_model::Armed;
 use net_io::{Sink, Source, WriteFault};
 use netd_session::{Status, offer, session};
+use policy_meaning::own_rule_means_start;
 use std::alloc::Global;
 
 // Prints the usage text.
 fn tell_usage<W: Sink>(sink: &mut W) -> Status
-    requires { CanCount (W.faults sink.old) }
-    ensures { TellsText result (record { bytes = W.written sink.old; faults = W.faults sink.old }) (record { bytes = W.written sink.new; faults = W.faults sink.new }) }
+    requires { CanCount (W.seen sink.old).faults }
+    ensures { TellsText result (W.seen sink.old) (W.seen sink.new) }
 {
     match offer(sink, usage().as_bytes()) {
         Ok(()) => Status::BadWords,
@@ -32,12 +36,12 @@ fn carry_out<S: Source, W: Sink, K: Armed>(
     kernel: &mut K,
 ) -> Status
     requires starting { (K.seen kernel.old).journal ≡ [] }
-    requires reads { CanCount (S.faults source.old) }
-    requires writes { CanCount (W.faults sink.old) }
-    requires not_ended { S.ended source.old ≡ false }
+    requires reads { CanCount (S.seen source.old).faults }
+    requires writes { CanCount (W.seen sink.old).faults }
+    requires not_ended { (S.seen source.old).ended ≡ false }
     ensures { DoesForm (view_of form)
-        (record { left = S.left source.old; read_faults = S.faults source.old; ended = S.ended source.old; written = W.written sink.old; write_faults = W.faults sink.old; kernel = K.seen kernel.old })
-        (record { left = S.left source.new; read_faults = S.faults source.new; ended = S.ended source.new; written = W.written sink.new; write_faults = W.faults sink.new; kernel = K.seen kernel.new })
+        (world (S.seen source.old) (W.seen sink.old) (K.seen kernel.old))
+        (world (S.seen source.new) (W.seen sink.new) (K.seen kernel.new))
         result }
 {
     match form {
@@ -57,12 +61,12 @@ fn obey<S: Source, W: Sink, K: Armed>(
     kernel: &mut K,
 ) -> Status
     requires starting { (K.seen kernel.old).journal ≡ [] }
-    requires reads { CanCount (S.faults source.old) }
-    requires writes { CanCount (W.faults sink.old) }
-    requires not_ended { S.ended source.old ≡ false }
+    requires reads { CanCount (S.seen source.old).faults }
+    requires writes { CanCount (W.seen sink.old).faults }
+    requires not_ended { (S.seen source.old).ended ≡ false }
     ensures { DoesRun (map string_bytes words.now)
-        (record { left = S.left source.old; read_faults = S.faults source.old; ended = S.ended source.old; written = W.written sink.old; write_faults = W.faults sink.old; kernel = K.seen kernel.old })
-        (record { left = S.left source.new; read_faults = S.faults source.new; ended = S.ended source.new; written = W.written sink.new; write_faults = W.faults sink.new; kernel = K.seen kernel.new })
+        (world (S.seen source.old) (W.seen sink.old) (K.seen kernel.old))
+        (world (S.seen source.new) (W.seen sink.new) (K.seen kernel.new))
         result }
 {
     match read_words(alloc, words) {
@@ -82,23 +86,34 @@ pub fn run<S: Source, W: Sink, K: Armed>(
     kernel: &mut K,
 ) -> Status
     requires starting { (K.seen kernel.old).journal ≡ [] }
-    requires reads { CanCount (S.faults source.old) }
-    requires writes { CanCount (W.faults sink.old) }
-    requires not_ended { S.ended source.old ≡ false }
+    requires reads { CanCount (S.seen source.old).faults }
+    requires writes { CanCount (W.seen sink.old).faults }
+    requires not_ended { (S.seen source.old).ended ≡ false }
     ensures does { DoesRun (map string_bytes words.now)
-        (record { left = S.left source.old; read_faults = S.faults source.old; ended = S.ended source.old; written = W.written sink.old; write_faults = W.faults sink.old; kernel = K.seen kernel.old })
-        (record { left = S.left source.new; read_faults = S.faults source.new; ended = S.ended source.new; written = W.written sink.new; write_faults = W.faults sink.new; kernel = K.seen kernel.new })
+        (world (S.seen source.old) (W.seen sink.old) (K.seen kernel.old))
+        (world (S.seen source.new) (W.seen sink.new) (K.seen kernel.new))
         result }
 
     // whatever the words and the status, each request that was asked is well formed
     ensures formed { AreWellFormed (K.seen kernel.new).journal }
+    ensures limited { length (K.seen kernel.new).journal ≤ journal_limit }
+
+    // the whole journal, moment by moment
+    ensures history { HasRunHistory (map string_bytes words.now)
+        (world (S.seen source.old) (W.seen sink.old) (K.seen kernel.old))
+        (world (S.seen source.new) (W.seen sink.new) (K.seen kernel.new))
+        result }
+
+    // refusals and breaks fall where the two lists say
+    ensures listed { FailsWhereListed (map string_bytes words.now) (K.seen kernel.new).journal }
 
     // why the status is this one, and what stands then
     ensures causes { HasRunCauses (map string_bytes words.now)
-        (record { left = S.left source.old; read_faults = S.faults source.old; ended = S.ended source.old; written = W.written sink.old; write_faults = W.faults sink.old; kernel = K.seen kernel.old })
-        (record { left = S.left source.new; read_faults = S.faults source.new; ended = S.ended source.new; written = W.written sink.new; write_faults = W.faults sink.new; kernel = K.seen kernel.new })
+        (world (S.seen source.old) (W.seen sink.old) (K.seen kernel.old))
+        (world (S.seen source.new) (W.seen sink.new) (K.seen kernel.new))
         result }
 {
     one_form();
+    own_rule_means_start();
     obey(alloc, words, source, sink, kernel)
 }

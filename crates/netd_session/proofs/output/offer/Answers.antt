@@ -16,11 +16,11 @@ loop-at-preserved g c =
     let at = c.loop-at.at in
     let n = c.in-Ok.count in
     let piece = c.args.piece.now in
-    let step : Appends (g.W.Sink.written c.loop-at.sink) (g.W.Sink.written c.write.new.self) (take n (drop at piece)) =
-    subst (λ (s : List ℕ). Appends (g.W.Sink.written c.loop-at.sink) (g.W.Sink.written c.write.new.self) (take n s)) (take_rest piece at) c.in-Ok.ensures.bytes in
+    let step : Appends (g.W.Sink.seen c.loop-at.sink).bytes (g.W.Sink.seen c.write.new.self).bytes (take n (drop at piece)) =
+    subst (λ (s : List ℕ). Appends (g.W.Sink.seen c.loop-at.sink).bytes (g.W.Sink.seen c.write.new.self).bytes (take n s)) (take_rest piece at) c.in-Ok.ensures.bytes in
     record {
       inside = omega (arith, length-drop at piece, ap length (take_rest piece at), c.in-Ok.ensures.bound);
       no_fault = c.in-Ok.ensures.kept ∙ c.loop-at.invariant.no_fault;
-      taken = subst (Appends (g.W.Sink.written c.args.sink.now) (g.W.Sink.written c.write.new.self)) (sym (take-add at n piece))
+      taken = subst (Appends (g.W.Sink.seen c.args.sink.now).bytes (g.W.Sink.seen c.write.new.self).bytes) (sym (take-add at n piece))
           (appends_both _ _ _ (take at piece) (take n (drop at piece)) c.loop-at.invariant.taken step);
     }

@@ -5,8 +5,8 @@ use Rattle.netd_session.proofs.output.offer.Given as goal
 abbrev pub invariant-loop-at : goal.invariant-loop-at
 invariant-loop-at g l = record {
   inside : l.at ≤ length l.piece;
-  no_fault : g.W.Sink.faults l.sink ≡ g.W.Sink.faults l.initial.sink;
-  taken : Appends (g.W.Sink.written l.initial.sink) (g.W.Sink.written l.sink) (take l.at l.piece);
+  no_fault : (g.W.Sink.seen l.sink).faults ≡ (g.W.Sink.seen l.initial.sink).faults;
+  taken : Appends (g.W.Sink.seen l.initial.sink).bytes (g.W.Sink.seen l.sink).bytes (take l.at l.piece);
 }
 
 abbrev pub decreases-loop-at : goal.decreases-loop-at

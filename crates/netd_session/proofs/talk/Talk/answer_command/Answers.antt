@@ -20,5 +20,7 @@ returns-clause-answers g c =
         text = c.put_answer.ensures ∙ ap (λ (xs : List ℕ). xs ++ numbered c.args.number (answer_text c.apply-answer.result)) (c.reserve-2.ensures.items ∙ c.requires.empty);
         moments = c.apply-answer.ensures.moments c.requires.runs;
         locked = c.apply-answer.ensures.locked c.requires.runs;
+        once = c.apply-answer.ensures.once c.requires.runs;
+        as_before = c.apply-answer.ensures.as_before;
       },
     )

@@ -1,0 +1,481 @@
+-- The whole journal of a session, moment by moment.
+use Rattle.std.proofs.Common.{◌≡◌, ◌≢◌, ◌∙◌, ◌⊎◌, ◌↔◌, ℕ, zero, suc, ◌+◌, ◌-◌, ◌≤◌, Bool, true, false, ◌&&◌, not, List, [], ◌∷◌, ◌++◌, length, take, filter, Option, None, Some, Err, IsSome, IsTrue, slice_get, inl, inr, refl, sym, ap, subst, append_assoc, arith, length-append}
+use Rattle.std.proofs.lemmas.Bool.{cases_lt, false≢true}
+use Rattle.std.proofs.lemmas.List.{append-nil, take_all, take-append-le}
+use Rattle.std.proofs.lemmas.List.Elements.{Contains-append_right}
+use Rattle.std.proofs.lemmas.Option.{none-some}
+use Rattle.std.proofs.Math.Seq.{take-append_seam}
+use Rattle.std.specs.List.{AllByRecursion, Contains}
+use Rattle.kernel_model.proofs.Alls.{all-append}
+use Rattle.kernel_model.proofs.Replays.{replay-append}
+use Rattle.kernel_model.proofs.Stopped.{moments_go_on}
+use Rattle.kernel_model.specs.Journal.{is_broken, is_refused, replay, replay_from}
+use Rattle.kernel_model.specs.Moments.{moment, moment_from}
+use Rattle.kernel_model.specs.Segment.{undone}
+use Rattle.kernel_model.specs.State.{KernelState, start as kernel_start}
+use Rattle.kernel_model.specs.Switch.{walk_along}
+use Rattle.kernel_model.specs.View.{KernelView, grown, state_of}
+use Rattle.kernel_model.specs.Walk.{walk}
+use Rattle.kernel_model.specs.declared.request.Entry.{Entry}
+use Rattle.kernel_model.specs.declared.request.Request.{Request}
+use Rattle.net_control.proofs.Policed.{at_each as at_either, stays as nothing_asked}
+use Rattle.net_control.specs.Applied.{IsAnswered, code_of}
+use Rattle.net_control.specs.Causes.{BrokeNone, RefusedNone}
+use Rattle.net_control.specs.Moments.{KeepsPolicy, SendsByPolicy}
+use Rattle.net_control.specs.Started.{IsStarted, start_adds}
+use Rattle.net_control.specs.View.{ControllerView}
+use Rattle.net_control.specs.declared.controller.Answer.{Answer}
+use Rattle.net_control.specs.declared.controller.Answer.TheVariants as answer
+use Rattle.net_control.specs.declared.controller.StartFault.TheVariants as fault
+use Rattle.policy_meaning.specs.Policy.{IsBarred, policy}
+use Rattle.policy_meaning.specs.Promise.{StaysIn}
+use Rattle.policy_state.specs.Step.{changed}
+use Rattle.policy_state.specs.View.{StateView, start}
+use Rattle.policy_state.specs.declared.command.Command.{Command}
+use Rattle.rule_law.specs.Plans.{GoesOver, GoesOverAndBack}
+use Rattle.fwmark.specs.Mark.{is_protected}
+use Rattle.rule_match.specs.Packet.{is_made}
+use Rattle.rule_match.specs.declared.packet.Packet.{Packet}
+use Rattle.rule_match.specs.declared.verdict.Verdict.{Verdict}
+use Rattle.script_reader.specs.Lines.{Spells}
+use Rattle.script_reader.specs.declared.line.Line.{Line}
+use Rattle.script_reader.specs.declared.line.Line.TheVariants as line
+use Rattle.script_reader.specs.declared.line.TraceLine.TheVariants as trace
+use Rattle.netd_session.proofs.Keeping.{packet_stays, show_stays}
+use Rattle.netd_session.specs.EndedView.{EndedView}
+use Rattle.netd_session.specs.Ending.{World, AtInput, AtLine, AtStart, EndsStart, HasBegun, HasRun, StartFails}
+use Rattle.netd_session.specs.History.{Part, asked_of, behind, left_by, Runs, Follow, AllRunButLast, AreSaid, the_start, a_command, another, Holds, LiesIn, asked, History, HasHistory}
+use Rattle.netd_session.specs.Says.{Says}
+use Rattle.netd_session.specs.Talks.{EndsLine}
+use Rattle.netd_session.specs.Turns.{Standing, Goes, IsAnsweredLine, IsCommanded, Ran, no_line, one_more}
+use Rattle.netd_session.specs.declared.status.Status.{Status}
+use Rattle.netd_session.specs.declared.status.Status.TheVariants as status
+use Rattle.netd_session.specs.declared.turn.Said.{Said}
+use Rattle.netd_session.specs.declared.turn.Said.TheVariants as said
+use Rattle.netd_session.specs.declared.turn.Turn.{Turn}
+
+-- the same values at each moment
+same_over_and_back : {last : ℕ} {at other : ℕ → Verdict} {old new : Verdict} → ((i : ℕ) → i ≤ last → other i ≡ at i)
+    → GoesOverAndBack last at old new → GoesOverAndBack last other old new
+same_over_and_back {last} {at} {other} {old} {new} same goes = record {
+  over = goes.over;
+  back = goes.back;
+  in_order = goes.in_order;
+  before = λ i l f. same i l ∙ goes.before i l f;
+  between = λ i l o b. same i l ∙ goes.between i l o b;
+  behind = λ i l b. same i l ∙ goes.behind i l b;
+}
+
+same_over : {last : ℕ} {at other : ℕ → Verdict} {old new : Verdict} → ((i : ℕ) → i ≤ last → other i ≡ at i)
+    → GoesOver last at old new → GoesOver last other old new
+same_over {last} {at} {other} {old} {new} same goes = record {
+  switch = goes.switch;
+  before = λ i l f. same i l ∙ goes.before i l f;
+  behind = λ i l b. same i l ∙ goes.behind i l b;
+}
+
+-- between two names of one value
+at_each : {last : ℕ} {at : ℕ → Verdict} {v : Verdict} → GoesOverAndBack last at v v → (i : ℕ) → i ≤ last → at i ≡ v
+at_each {last} {at} {v} goes i within = elim (cases_lt i goes.over) as (λ _. at i ≡ v) [
+  | inl front ↦ goes.before i within front
+  | inr over ↦ elim (cases_lt i goes.back) as (λ _. at i ≡ v) [
+    | inl front ↦ goes.between i within over front
+    | inr behind ↦ goes.behind i within behind
+  ]
+]
+
+-- what a part of a kernel's journal is of the whole journal
+module _ (before after : KernelView) (es rest : List Entry) (grew : after ≡ grown before es) where
+  whole_is : after.journal ++ rest ≡ before.journal ++ (es ++ rest)
+  whole_is = ap (λ (k : KernelView). k.journal ++ rest) grew ∙ append_assoc before.journal es rest
+
+  ends_at : length after.journal ≡ length before.journal + length es
+  ends_at = ap (λ (k : KernelView). length k.journal) grew ∙ length-append before.journal es
+
+  front : take (length before.journal) (after.journal ++ rest) ≡ before.journal
+  front = ap (take (length before.journal)) whole_is ∙ take-append_seam before.journal (es ++ rest)
+
+  all : take (length before.journal + length es) (after.journal ++ rest) ≡ after.journal
+  all = ap (λ (n : ℕ). take n (after.journal ++ rest)) (sym ends_at) ∙ take-append_seam after.journal rest
+
+  at_moment : (i : ℕ) → i ≤ length es → moment (after.journal ++ rest) (length before.journal + i) ≡ moment_from (state_of before) es i
+  at_moment i within =
+      ap (λ (l : List Entry). moment l (length before.journal + i)) whole_is ∙ moments_go_on before.journal (es ++ rest) i
+      ∙ ap (replay_from (state_of before)) (take-append-le i es rest within)
+
+  holds : (command : Option Command) (a : Answer) (old : StateView)
+      → ((packet : Packet) → GoesOverAndBack (length es) (walk_along (state_of before) packet es) (policy old packet) (policy (asked_of old command) packet))
+      → (RefusedNone before after → (packet : Packet) → GoesOver (length es) (walk_along (state_of before) packet es) (policy old packet) (policy (asked_of old command) packet))
+      → ((packet : Packet) → IsBarred old packet → IsBarred (asked_of old command) packet → packet.uid.number ≢ 0 → (i : ℕ) → i ≤ length es → StaysIn (walk_along (state_of before) packet es i))
+      → (((request : ℕ) → a ≢ answer.Halted request) → (packet : Packet) → walk (state_of after) packet ≡ policy (behind (record { command = command; answer = a; old = old; from = 0; count = 0 })) packet)
+      → ((request : ℕ) → a ≡ answer.KernelRefused request → state_of after ≡ state_of before)
+      → ((c : Command) → command ≡ Some c → (a ≡ answer.Done) ↔ ((code_of old before.journal c ≡ None) × RefusedNone before after × BrokeNone before after))
+      → Holds (after.journal ++ rest) (record { command = command; answer = a; old = old; from = length before.journal; count = length es })
+  holds command a old policies once barred sends same done = record {
+    keeps_policy = λ packet. same_over_and_back (at_walk packet) (policies packet);
+    once = λ none packet. same_over (at_walk packet) (once (refused none) packet);
+    keeps_lockdown = λ packet was is user i within. subst StaysIn (sym (at_walk packet i within)) (barred packet was is user i within);
+    sends = λ runs packet. ap (λ (j : List Entry). walk (replay j) packet) all ∙ sends runs packet;
+    as_before = λ request is. ap replay all ∙ same request is ∙ sym (ap replay front);
+    carried_out = λ c is. (
+      (λ e. let h = (done c is).0 e in (ap (λ (j : List Entry). code_of old j c) front ∙ h.0, unrefused h.1, unbroken h.2)),
+      (λ h. (done c is).1 (ap (λ (j : List Entry). code_of old j c) (sym front) ∙ h.0, refused h.1, broke h.2)),
+    );
+  }
+    where
+      at_walk : (packet : Packet) (i : ℕ) → i ≤ length es → walk (moment (after.journal ++ rest) (length before.journal + i)) packet ≡ walk_along (state_of before) packet es i
+      at_walk packet i within = ap (λ (k : KernelState). walk k packet) (at_moment i within)
+
+      refused : length (filter is_refused (take (length before.journal + length es) (after.journal ++ rest))) ≡ length (filter is_refused (take (length before.journal) (after.journal ++ rest)))
+          → RefusedNone before after
+      refused e = ap (λ (j : List Entry). length (filter is_refused j)) (sym all) ∙ e ∙ ap (λ (j : List Entry). length (filter is_refused j)) front
+
+      broke : length (filter is_broken (take (length before.journal + length es) (after.journal ++ rest))) ≡ length (filter is_broken (take (length before.journal) (after.journal ++ rest)))
+          → BrokeNone before after
+      broke e = ap (λ (j : List Entry). length (filter is_broken j)) (sym all) ∙ e ∙ ap (λ (j : List Entry). length (filter is_broken j)) front
+
+      unrefused : RefusedNone before after
+          → length (filter is_refused (take (length before.journal + length es) (after.journal ++ rest))) ≡ length (filter is_refused (take (length before.journal) (after.journal ++ rest)))
+      unrefused e = ap (λ (j : List Entry). length (filter is_refused j)) all ∙ e ∙ sym (ap (λ (j : List Entry). length (filter is_refused j)) front)
+
+      unbroken : BrokeNone before after
+          → length (filter is_broken (take (length before.journal + length es) (after.journal ++ rest))) ≡ length (filter is_broken (take (length before.journal) (after.journal ++ rest)))
+      unbroken e = ap (λ (j : List Entry). length (filter is_broken j)) all ∙ e ∙ sym (ap (λ (j : List Entry). length (filter is_broken j)) front)
+
+-- behind a command the policy has the state that its answer says
+state_behind : (a : Answer) (command : Command) (old new : ControllerView) (before after : KernelView) → IsAnswered a command old new before after
+    → new.state ≡ left_by a old.state (changed old.state command)
+state_behind answer.Done command old new before after is = ap (λ (c : ControllerView). c.state) is.2
+state_behind (answer.Refused c) command old new before after is = ap (λ (c : ControllerView). c.state) is.3
+state_behind (answer.KernelRefused q) command old new before after is = ap (λ (c : ControllerView). c.state) is.2
+state_behind (answer.Halted q) command old new before after (inl is) = ap (λ (c : ControllerView). c.state) is.2
+state_behind (answer.Halted q) command old new before after (inr is) = ap (λ (c : ControllerView). c.state) is.2
+state_behind answer.NoMemory command old new before after is = ap (λ (c : ControllerView). c.state) is.2
+
+goes_on : (a : Answer) (command : Command) (old new : ControllerView) (before after : KernelView) → IsAnswered a command old new before after
+    → ((request : ℕ) → a ≢ answer.Halted request) → new.halted ≡ None
+goes_on answer.Done command old new before after is runs = ap (λ (c : ControllerView). c.halted) is.2
+goes_on (answer.Refused c) command old new before after is runs = ap (λ (c : ControllerView). c.halted) is.3 ∙ is.0
+goes_on (answer.KernelRefused q) command old new before after is runs = ap (λ (c : ControllerView). c.halted) is.2 ∙ is.0.runs
+goes_on (answer.Halted q) command old new before after is runs = absurd (runs q refl)
+goes_on answer.NoMemory command old new before after is runs = ap (λ (c : ControllerView). c.halted) is.2 ∙ is.0
+
+-- of want of memory no turn speaks
+says_more : (what : Said) → Says what answer.NoMemory → ⊥
+says_more said.Done h = h
+says_more (said.Refused c) h = h
+says_more (said.KernelRefused q) h = h
+says_more (said.Halted q) h = h
+says_more _ h = h
+
+follow_on : (parts : List Part) (at : ℕ) (s : StateView) (end : ℕ) (last : StateView) (p : Part) (new_end : ℕ) (new_last : StateView) → Follow at s parts end last
+    → p.from ≡ end → p.old ≡ last → new_end ≡ p.from + p.count → new_last ≡ behind p → Follow at s (parts ++ p ∷ []) new_end new_last
+follow_on [] at s end last p new_end new_last is from old ends left = (from ∙ is.0, old ∙ is.1, (ends, left))
+follow_on (q ∷ parts) at s end last p new_end new_last is from old ends left =
+    (is.0, is.1, follow_on parts (q.from + q.count) (behind q) end last p new_end new_last is.2 from old ends left)
+
+last_may_halt : (parts : List Part) (p : Part) → AllByRecursion Runs parts → AllRunButLast (parts ++ p ∷ [])
+last_may_halt [] p runs = tt
+last_may_halt (q ∷ []) p runs = (runs.0, tt)
+last_may_halt (q ∷ (r ∷ parts)) p runs = (runs.0, last_may_halt (r ∷ parts) p runs.1)
+
+-- a moment lies in one of the parts
+record Found (P : Part → Type 0) (parts : List Part) (i : ℕ) : Type 0 where
+  part : Part
+  stands : Contains parts part
+  begun : part.from ≤ i
+  inside : i ≤ part.from + part.count
+  holds : P part
+
+find : (P : Part → Type 0) (p : Part) (parts : List Part) (at : ℕ) (s : StateView) (end : ℕ) (last : StateView) → Follow at s (p ∷ parts) end last → AllByRecursion P (p ∷ parts)
+    → (i : ℕ) → at ≤ i → i ≤ end → Found P (p ∷ parts) i
+find P p [] at s end last is each i low high = record {
+  part = p;
+  stands = (0, omega arith, refl);
+  begun = omega (arith, is.0, low);
+  inside = omega (arith, is.2.0, high);
+  holds = each.0;
+}
+find P p (q ∷ parts) at s end last is each i low high = elim (cases_lt (p.from + p.count) i) as (λ _. Found P (p ∷ (q ∷ parts)) i) [
+  | inl past ↦
+      let there : Found P (q ∷ parts) i = find P q parts (p.from + p.count) (behind p) end last is.2 each.1 i (omega (arith, past)) high in record {
+        part = there.part;
+        stands = Contains-append_right (p ∷ []) (q ∷ parts) there.part there.stands;
+        begun = there.begun;
+        inside = there.inside;
+        holds = there.holds;
+      }
+  | inr within ↦ record { part = p; stands = (0, omega arith, refl); begun = omega (arith, is.0, low); inside = within; holds = each.0 }
+]
+
+lies_in : (journal : List Entry) (parts : List Part) (i : ℕ) → Found (Holds journal) parts i → LiesIn journal parts i
+lies_in journal parts i found =
+    let p = found.part in
+    let at : p.from + (i - p.from) ≡ i = omega (arith, found.begun) in
+    let within : i - p.from ≤ p.count = omega (arith, found.begun, found.inside) in record {
+      part = p;
+      stands = found.stands;
+      begun = found.begun;
+      inside = found.inside;
+      keeps_policy = λ packet. subst (λ (n : ℕ). (walk (moment journal n) packet ≡ policy p.old packet) ⊎ (walk (moment journal n) packet ≡ policy (asked p) packet)) at
+          (at_either (found.holds.keeps_policy packet) (i - p.from) within);
+      keeps_lockdown = λ packet was is user. subst (λ (n : ℕ). StaysIn (walk (moment journal n) packet)) at (found.holds.keeps_lockdown packet was is user (i - p.from) within);
+    }
+
+-- there's a part
+not_none : {A : Type 0} (texts : List (List ℕ)) (parts : List Part) → AreSaid texts parts → parts ≡ [] → A
+not_none texts parts (the_start p is) e = absurd cc
+not_none texts parts (a_command before front said text command p spells is) e = absurd (snoc_some front p e)
+  where
+    snoc_some : (qs : List Part) (q : Part) → qs ++ q ∷ [] ≡ [] → ⊥
+    snoc_some [] q e = absurd cc
+    snoc_some (r ∷ qs) q e = absurd cc
+not_none texts parts (another before front said text l spells other) e = not_none before front said e
+
+all_lie_in : (journal : List Entry) (texts : List (List ℕ)) (parts : List Part) (last : StateView) → AreSaid texts parts → Follow 0 start parts (length journal) last
+    → AllByRecursion (Holds journal) parts → (i : ℕ) → i ≤ length journal → LiesIn journal parts i
+all_lie_in journal texts [] last said is each i within = not_none texts [] said refl
+all_lie_in journal texts (p ∷ parts) last said is each i within =
+    lies_in journal (p ∷ parts) i (find (Holds journal) p parts 0 start (length journal) last is each i (omega arith) within)
+
+history_of : (lines answered unanswered : List (List ℕ)) (journal : List Entry) (parts : List Part) (last : StateView) → lines ≡ answered ++ unanswered → AreSaid answered parts
+    → Follow 0 start parts (length journal) last → AllRunButLast parts → AllByRecursion (Holds journal) parts → History lines journal
+history_of lines answered unanswered journal parts last cut said is halted each = record {
+  parts = parts;
+  last = last;
+  answered = answered;
+  unanswered = unanswered;
+  cut = cut;
+  said = said;
+  follow = is;
+  halted = halted;
+  each = each;
+  moments = all_lie_in journal answered parts last said is each;
+}
+
+-- the parts of the journal of a session that stands here behind these lines, whatever comes
+record Told (texts : List (List ℕ)) (e : Standing) : Type 0 where
+  parts : List Part
+  said : AreSaid texts parts
+  follow : Follow 0 start parts (length e.kernel.journal) e.controller.state
+  each : (rest : List Entry) → AllByRecursion (Holds (e.kernel.journal ++ rest)) parts
+  halted : AllRunButLast parts
+  runs : e.controller.halted ≡ None → AllByRecursion Runs parts
+
+-- a line that asks nothing
+stays : (texts : List (List ℕ)) (m e : Standing) (text : List ℕ) (l : Line) → Told texts m → Spells text l → ((command : Command) → l ≢ line.Control command) → e ≡ m → Told (texts ++ text ∷ []) e
+stays texts m e text l told spells other same = subst (Told (texts ++ text ∷ [])) (sym same) record {
+  parts = told.parts;
+  said = another texts told.parts told.said text l spells other;
+  follow = told.follow;
+  each = told.each;
+  halted = told.halted;
+  runs = told.runs;
+}
+
+module _ (texts : List (List ℕ)) (m e : Standing) (text : List ℕ) (command : Command) (n : ℕ) (turns : List Turn) (out : List ℕ)
+    (told : Told texts m) (running : m.controller.halted ≡ None) (spells : Spells text (line.Control command)) (is : IsCommanded command n m e turns out)
+    (sends : SendsByPolicy e.controller e.kernel) where
+  abbrev part : Part
+  part = record { command = Some command; answer = is.a; old = m.controller.state; from = length m.kernel.journal; count = length is.moments.entries }
+
+  answers_something : is.a ≢ answer.NoMemory
+  answers_something e = says_more is.what (subst (λ (a : Answer). Says is.what a) e is.says)
+
+  exactly : (c : Command) → Some command ≡ Some c
+      → (is.a ≡ answer.Done) ↔ ((code_of m.controller.state m.kernel.journal c ≡ None) × RefusedNone m.kernel e.kernel × BrokeNone m.kernel e.kernel)
+  exactly c same =
+      subst (λ (d : Command). (is.a ≡ answer.Done) ↔ ((code_of m.controller.state m.kernel.journal d ≡ None) × RefusedNone m.kernel e.kernel × BrokeNone m.kernel e.kernel)) (of_some same) (
+        (λ done. let h = (is.caused.done answers_something).0 done in (h.0.accepted, h.1, h.2)),
+        (λ h. (is.caused.done answers_something).1 (record { runs = running; accepted = h.0 }, h.1, h.2)),
+      )
+    where
+      of_some : Some command ≡ Some c → command ≡ c
+      of_some e = cc
+
+  here : (rest : List Entry) → Holds (e.kernel.journal ++ rest) part
+  here rest =
+      holds m.kernel e.kernel is.moments.entries rest is.moments.grew (Some command) is.a m.controller.state
+      is.moments.moments
+      (λ none packet. is.once none is.moments.entries is.moments.grew packet)
+      (λ packet was barred user i within. is.locked is.moments.entries is.moments.grew packet was barred user i within)
+      (λ runs packet. sends.everywhere (goes_on is.a command m.controller e.controller m.kernel e.kernel is.answered runs) packet
+      ∙ ap (λ (s : StateView). policy s packet) (state_behind is.a command m.controller e.controller m.kernel e.kernel is.answered))
+      is.as_before exactly
+
+  before : (rest : List Entry) → AllByRecursion (Holds (e.kernel.journal ++ rest)) told.parts
+  before rest =
+      subst (λ (j : List Entry). AllByRecursion (Holds j) told.parts) (sym (whole_is m.kernel e.kernel is.moments.entries rest is.moments.grew))
+      (told.each (is.moments.entries ++ rest))
+
+  runs_on : e.controller.halted ≡ None → Runs part
+  runs_on on request halts = false≢true (subst (λ (h : Option ℕ). IsSome h) on (is.caused.halts.1 (is.caused.halted.0 (request, halts))))
+
+  commanded : Told (texts ++ text ∷ []) e
+  commanded = record {
+    parts = told.parts ++ part ∷ [];
+    said = a_command texts told.parts told.said text command part spells refl;
+    follow = follow_on told.parts 0 start (length m.kernel.journal) m.controller.state part (length e.kernel.journal) e.controller.state told.follow refl refl
+        (ends_at m.kernel e.kernel is.moments.entries [] is.moments.grew) (state_behind is.a command m.controller e.controller m.kernel e.kernel is.answered);
+    each = λ rest. all-append (Holds (e.kernel.journal ++ rest)) told.parts (part ∷ []) (before rest) (here rest, tt);
+    halted = last_may_halt told.parts part (told.runs running);
+    runs = λ on. all-append Runs told.parts (part ∷ []) (told.runs running) (runs_on on, tt);
+  }
+
+-- a line more
+told_line : (texts : List (List ℕ)) (m e : Standing) (text : List ℕ) (n : ℕ) (turns : List Turn) (out : List ℕ) → Told texts m → m.controller.halted ≡ None
+    → Goes text n m e turns out → Told (texts ++ text ∷ []) e
+told_line texts m e text n turns out told running goes = by goes.line goes.spelled goes.answered
+  where
+    by : (l : Line) → Spells text l → IsAnsweredLine l n m e turns out → Told (texts ++ text ∷ []) e
+    by line.Blank spells is = stays texts m e text line.Blank told spells (λ c e. absurd cc) is.0
+    by (line.Control command) spells is = commanded texts m e text command n turns out told running spells is goes.sends
+    by (line.Trace (trace.Made uid mark dest link)) spells is = stays texts m e text (line.Trace (trace.Made uid mark dest link)) told spells (λ c e. absurd cc) (packet_stays uid mark dest link n m e turns out is)
+    by (line.Show question) spells is = stays texts m e text (line.Show question) told spells (λ c e. absurd cc) (show_stays question n m e turns out is)
+
+ran_told : {begun : Standing} {texts : List (List ℕ)} {e : Standing} {turns : List Turn} {out : List ℕ} → Ran begun texts e turns out → Told [] begun → Told texts e
+ran_told no_line told = told
+ran_told (one_more texts m turns out ran runs text e more more_out goes) told = told_line texts m e text (length texts + 1) more more_out (ran_told ran told) runs goes
+
+-- no user is locked down at the start
+none_barred : (packet : Packet) → IsBarred start packet → ⊥
+none_barred packet barred = never (is_made packet) (not (is_protected packet.mark)) barred
+  where
+    never : (a b : Bool) → IsTrue (a && (b && false)) → ⊥
+    never true true h = false≢true h
+    never true false h = false≢true h
+    never false b h = false≢true h
+
+left_same : (a : Answer) → left_by a start start ≡ start
+left_same answer.Done = refl
+left_same (answer.Refused c) = refl
+left_same (answer.KernelRefused q) = refl
+left_same (answer.Halted q) = refl
+left_same answer.NoMemory = refl
+
+module _ (lines : List (List ℕ)) (before after : KernelView) (a : Answer) (keeps : KeepsPolicy before after start start) where
+  start_holds : (rest : List Entry) → ((request : ℕ) → a ≡ answer.KernelRefused request → state_of after ≡ state_of before)
+      → Holds (after.journal ++ rest) (record { command = None; answer = a; old = start; from = length before.journal; count = length keeps.entries })
+  start_holds rest same =
+      holds before after keeps.entries rest keeps.grew None a start keeps.moments
+      (λ none packet. record { switch = 0; before = λ i l f. absurd (omega (arith, f)); behind = λ i l b. at_each (keeps.moments packet) i l })
+      (λ packet was barred user i within. absurd (none_barred packet was))
+      (λ runs packet. ap (λ (k : KernelState). walk k packet) last ∙ at_each (keeps.moments packet) (length keeps.entries) (omega arith) ∙ ap (λ (s : StateView). policy s packet) (sym (left_same a)))
+      same (λ c e. absurd (none-some c e))
+    where
+      last : state_of after ≡ moment_from (state_of before) keeps.entries (length keeps.entries)
+      last = ap state_of keeps.grew ∙ replay-append before.journal keeps.entries ∙ ap (replay_from (state_of before)) (sym (take_all (length keeps.entries) keeps.entries (omega arith)))
+
+  -- a start that failed is all of the journal
+  start_alone : before.journal ≡ [] → ((request : ℕ) → a ≡ answer.KernelRefused request → state_of after ≡ state_of before) → History lines after.journal
+  start_alone none same =
+      let p : Part = record { command = None; answer = a; old = start; from = length before.journal; count = length keeps.entries } in
+      history_of lines [] lines after.journal (p ∷ []) start refl (the_start p refl)
+      (ap length none, refl, (ends_at before after keeps.entries [] keeps.grew, sym (left_same a))) tt
+      (subst (λ (j : List Entry). Holds j p) (append-nil after.journal) (start_holds [] same), tt)
+
+began_told : (before : KernelView) (begun : Standing) → HasBegun before begun → before.journal ≡ [] → Told [] begun
+began_told before begun began none = record {
+  parts = record { command = None; answer = answer.Done; old = start; from = length before.journal; count = length began.moments.entries } ∷ [];
+  said = the_start (record { command = None; answer = answer.Done; old = start; from = length before.journal; count = length began.moments.entries }) refl;
+  follow = (ap length none, refl, (ends_at before begun.kernel began.moments.entries [] began.moments.grew, ap (λ (c : ControllerView). c.state) began.started.1));
+  each = λ rest. (start_holds [] before begun.kernel answer.Done began.moments rest (λ request e. absurd cc), tt);
+  halted = tt;
+  runs = λ _. ((λ request e. absurd cc), tt);
+}
+
+-- the start's additions, undone at each of the six
+start_undone : (k : ℕ) (r : Request) → slice_get start_adds k ≡ Some r → replay_from kernel_start (undone start_adds k r) ≡ kernel_start
+start_undone zero r next = refl
+start_undone (suc zero) r next = refl
+start_undone (suc (suc zero)) r next = refl
+start_undone (suc (suc (suc zero))) r next = refl
+start_undone (suc (suc (suc (suc zero)))) r next = refl
+start_undone (suc (suc (suc (suc (suc zero))))) r next = refl
+start_undone (suc (suc (suc (suc (suc (suc k)))))) r next = absurd (none-some r next)
+
+start_refused : (q : ℕ) (before after : KernelView) → before.journal ≡ [] → IsStarted (Err (fault.Refused q)) before after → state_of after ≡ state_of before
+start_refused q before after none is =
+    ap state_of is.3 ∙ replay-append before.journal is.1 ∙ ap (replay_from (state_of before)) is.2.all
+    ∙ subst (λ (k : KernelState). replay_from k (undone start_adds is.0 is.2.refused) ≡ k) (sym (ap replay none)) (start_undone is.0 is.2.refused is.2.next)
+
+module _ (lines : List (List ℕ)) (old new : KernelView) (none : old.journal ≡ []) (means : (packet : Packet) → walk kernel_start packet ≡ policy start packet) where
+  failed : (text : List ℕ) → StartFails status.StartRefused old new text ⊎ StartFails status.Halted old new text → History lines new.journal
+  failed text (inl (q, started, keeps, says)) = start_alone lines old new (answer.KernelRefused q) keeps none (λ request e. start_refused q old new none started)
+  failed text (inr (q, started, keeps, says)) = start_alone lines old new (answer.Halted q) keeps none (λ request e. absurd cc)
+
+  unasked : new ≡ old → History lines new.journal
+  unasked same =
+      start_alone lines old new answer.NoMemory
+      (nothing_asked old new start start (λ packet. subst (λ (k : KernelState). walk k packet ≡ policy start packet) (sym (ap replay none)) (means packet)) same)
+      none (λ request e. absurd cc)
+
+  start_ends : (s : Status) (text : List ℕ) (taken : ℕ) → EndsStart s old new text taken → History lines new.journal
+  start_ends status.Finished text taken ends = absurd ends
+  start_ends status.BadWords text taken ends = absurd ends
+  start_ends status.BadLine text taken ends = absurd ends
+  start_ends status.ReadFault text taken ends = absurd ends
+  start_ends status.WriteFault text taken ends = failed text ends.0
+  start_ends status.Memory text taken (inl refused, short) = failed text (inl refused)
+  start_ends status.Memory text taken (inr (inl halted), short) = failed text (inr halted)
+  start_ends status.Memory text taken (inr (inr (same, nothing)), short) = unasked same
+  start_ends status.Halted text taken ends = failed text (inr ends.0)
+  start_ends status.StartRefused text taken ends = failed text (inl ends.0)
+  start_ends status.TooLong text taken ends = absurd ends
+
+-- how far the lines were answered
+record Reached (texts : List (List ℕ)) (text : List ℕ) (e : Standing) : Type 0 where
+  answered : List (List ℕ)
+  unanswered : List (List ℕ)
+  cut : texts ++ text ∷ [] ≡ answered ++ unanswered
+  told : Told answered e
+
+not_here : (texts : List (List ℕ)) (text : List ℕ) (a e : Standing) → Told texts a → e ≡ a → Reached texts text e
+not_here texts text a e told same = record { answered = texts; unanswered = text ∷ []; cut = refl; told = subst (Told texts) (sym same) told }
+
+to_here : (texts : List (List ℕ)) (text : List ℕ) (n : ℕ) (a e : Standing) (more : List Turn) (out : List ℕ) → Told texts a → a.controller.halted ≡ None → Goes text n a e more out → Reached texts text e
+to_here texts text n a e more out told runs goes = record {
+  answered = texts ++ text ∷ [];
+  unanswered = [];
+  cut = sym (append-nil (texts ++ text ∷ []));
+  told = told_line texts a e text n more out told runs goes;
+}
+
+line_told : (s : Status) (texts : List (List ℕ)) (text : List ℕ) (n : ℕ) (a e : Standing) (more : List Turn) (out : List ℕ) (taken : ℕ) → Told texts a → a.controller.halted ≡ None
+    → EndsLine s text n a e more out taken → Reached texts text e
+line_told status.Finished texts text n a e more out taken told runs ends = absurd ends
+line_told status.BadWords texts text n a e more out taken told runs ends = absurd ends
+line_told status.BadLine texts text n a e more out taken told runs ends = not_here texts text a e told ends.0.stays
+line_told status.ReadFault texts text n a e more out taken told runs ends = absurd ends
+line_told status.WriteFault texts text n a e more out taken told runs (inl bad, short) = not_here texts text a e told bad.stays
+line_told status.WriteFault texts text n a e more out taken told runs (inr goes, short) = to_here texts text n a e more out told runs goes
+line_told status.Memory texts text n a e more out taken told runs (inl bad, short) = not_here texts text a e told bad.stays
+line_told status.Memory texts text n a e more out taken told runs (inr (inl goes), short) = to_here texts text n a e more out told runs goes
+line_told status.Memory texts text n a e more out taken told runs (inr (inr untouched), short) = not_here texts text a e told untouched.0
+line_told status.Halted texts text n a e more out taken told runs ends = to_here texts text n a e more out told runs ends.0
+line_told status.StartRefused texts text n a e more out taken told runs ends = absurd ends
+line_told status.TooLong texts text n a e more out taken told runs ends = absurd ends
+
+all_told : (texts more lines : List (List ℕ)) (e : Standing) → lines ≡ texts ++ more → Told texts e → History lines e.kernel.journal
+all_told texts more lines e is told =
+    history_of lines texts more e.kernel.journal told.parts e.controller.state is told.said told.follow told.halted
+    (subst (λ (j : List Entry). AllByRecursion (Holds j) told.parts) (append-nil e.kernel.journal) (told.each []))
+
+pub session_history : (old new : World) (ended : EndedView) → ((packet : Packet) → walk kernel_start packet ≡ policy start packet) → old.kernel.journal ≡ [] → HasHistory old new ended
+session_history old new ended means none s = by s.ending
+  where
+    run_told : (lines : List (List ℕ)) (stands : Standing) (turns : List Turn) (out : List ℕ) → HasRun old lines stands turns out → Told lines stands
+    run_told lines stands turns out run = ran_told run.ran (began_told old.kernel run.begun run.began none)
+
+    same_kernel : (k : KernelView) → new.kernel ≡ k → History s.lines k.journal → History s.lines new.kernel.journal
+    same_kernel k is history = subst (λ (v : KernelView). History s.lines v.journal) (sym is) history
+
+    by : AtStart old new ended s.given s.lines s.out ⊎ (AtLine old new ended s.lines s.out ⊎ AtInput old new ended s.given s.lines s.out) → History s.lines new.kernel.journal
+    by (inl at) = start_ends s.lines old.kernel new.kernel none means ended.status at.text at.taken at.ends
+    by (inr (inl at)) =
+        let r : Reached at.before at.text at.stands =
+        line_told ended.status at.before at.text (length at.before + 1) at.stood at.stands at.more at.last at.taken (run_told at.before at.stood at.turns at.said at.run) at.running at.ends in
+        same_kernel at.stands.kernel at.kernel_is
+        (all_told r.answered (r.unanswered ++ at.behind) s.lines at.stands (at.cut ∙ sym (append_assoc at.before (at.text ∷ []) at.behind)
+        ∙ ap (λ (l : List (List ℕ)). l ++ at.behind) r.cut ∙ append_assoc r.answered r.unanswered at.behind) r.told)
+    by (inr (inr at)) = same_kernel at.stands.kernel at.kernel_is (all_told s.lines [] s.lines at.stands (sym (append-nil s.lines)) (run_told s.lines at.stands ended.turns s.out at.run))
