@@ -2,14 +2,11 @@
 import pathlib
 
 from case import Case, dialog, done, listed
+from texts import NETWORK, USAGE
 
 CASES = pathlib.Path(__file__).parent / "cases"
 INPUT_LIMIT = 16_777_216
 LINE_LIMIT = 512
-USAGE = b"usage: netd_run run [--refuse LIST] [--break LIST]\n"
-
-# An interface 'w' of network 100, which asks for no permission.
-NETWORK = done("link add w 2", "network create 100 physical none", "interface add 100 w")
 
 BY_OWN = "0 lookup 255"
 BY_LOCAL = "17000 lookup 97"
@@ -98,6 +95,30 @@ def packets():
     ]
     yield dialog("packet-by-gateway", NETWORK + routes + asks)
 
+    nowhere = listed("mark 0x0 unreachable", BY_OWN, BY_LOCAL, BY_LAST)
+    barred = listed("mark 0x0 prohibited", BY_OWN, "12500 prohibit")
+    device = listed("mark 0x0 loopback", BY_OWN)
+    asks = [
+        ("packet 9999 0x0 8.8.8.8", nowhere),
+        ("packet 10000 0x0 8.8.8.8", barred),
+        ("packet 19999 0x0 8.8.8.8", barred),
+        ("packet 20000 0x0 8.8.8.8", nowhere),
+        ("packet 10000 0x20000 8.8.8.8", nowhere.replace("0x0", "0x20000")),
+        ("packet 10000 0x0 127.255.255.255", device),
+        ("packet 10000 0x0 128.0.0.0", barred),
+        ("packet 10000 0x0 ::1", device),
+        ("packet 10000 0x0 ::2", barred),
+    ]
+    yield dialog("lockdown-edges", done("lockdown add 10000-19999") + asks)
+
+    locked = done("route add 100 w 0.0.0.0/0 via 192.168.1.1", "lockdown add 0-4294967294")
+    asks = [
+        ("packet 0 0x0 8.8.8.8 on w", listed("mark 0x0 out w via 192.168.1.1", BY_OWN, "10500 lookup 1002")),
+        ("packet 1000 0x0 8.8.8.8 on w", barred),
+        ("packet 0 0x0 8.8.8.8", barred),
+    ]
+    yield dialog("lockdown-root", NETWORK + locked + asks)
+
 
 def special_routes():
     """Routes that refuse or lead on come and go, and packets are asked after each."""
@@ -169,7 +190,8 @@ def long_words():
     yield Case("word-not-utf-8", b"lockdown add 0-9\n", USAGE, 2, (b"\xc3",))
 
     line = "lockdown" + " " * (LINE_LIMIT - len("lockdown") - len("add 0-9")) + "add 0-9"
-    yield dialog("line-512", [(line, "done"), (line[:-1] + " ", "bad line at column 512")], status=3)
+    cut = "lockdown add".ljust(LINE_LIMIT)
+    yield dialog("line-512", [(line, "done"), (cut, "bad line at column 513")], status=3)
 
 
 def large_inputs():

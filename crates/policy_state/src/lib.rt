@@ -14,6 +14,3 @@ pub use command::{Command, Way};
 pub use fault::StepFault;
 pub use link::Link;
 pub use state::State;
-
-#[cfg(test)]
-mod tests;

@@ -1,8 +1,9 @@
-use crate::{Command, State};
+//! What no line of a script calls.
 use net_names::Code;
+use policy_state::{Command, State};
 use std::test::Fail;
 
-// What no line of a script calls: the links, and why a command would be refused.
+// The links, and why a command would be refused.
 #[test]
 fn answers_without_a_step(rt: HostRuntime) -> Result<(), Fail> {
     let state = State::start(rt.alloc())?;

@@ -1,9 +1,10 @@
-use crate::plan;
+//! The order of a plan's requests, which no line of a script shows.
 use fwmark::Permission;
 use kernel_model::{Plan, Request};
 use net_names::Name;
-use policy_state::{Command, State, StepFault, Way};
-use prefixes::{Addr, Family, Prefix};
+use policy_state::{Command, State, StepFault};
+use prefixes::Family;
+use rule_compile::plan;
 use std::alloc::Global;
 use std::process::Abort;
 use std::test::Fail;
@@ -60,40 +61,11 @@ fn are_rules(requests: &[Request], one: Family, other: Family, priorities: &[u32
     true
 }
 
-// One route, in this table.
-fn is_route(requests: &[Request], number: u32) -> bool {
-    if requests.len() != 1 {
-        return false;
-    }
-    match requests[0] {
-        Request::Route { table, .. } => table == number,
-        Request::Rule { .. } => false,
-    }
-}
-
 fn wlan(rt: &impl Abort) -> Name {
     Name::from_bytes(b"wlan0").expect(rt, "a name")
 }
 
-// An interface of a network that asks for no permission has four rules.
-#[test]
-fn an_interface_comes(rt: HostRuntime) -> Result<(), Fail> {
-    let name = wlan(&rt);
-    let old = with_network(rt.alloc(), name)?;
-    let come = asked(rt.alloc(), &old, &Command::InterfaceAdd { net: 100, name })?;
-    assert!(rt;
-        are_rules(
-            come.adds(),
-            Family::V4,
-            Family::V6,
-            &[10500, 13000, 14000, 19000]
-        )
-    );
-    assert!(rt; come.delete_count() == 0);
-    Ok(())
-}
-
-// Three of them are replaced where the network asks for a permission, and the fourth goes.
+// Three of the four rules of an interface are replaced where its network asks for a permission, and the fourth goes.
 #[test]
 fn a_permission_changes(rt: HostRuntime) -> Result<(), Fail> {
     let old = with_interface(rt.alloc(), wlan(&rt))?;
@@ -122,36 +94,5 @@ fn a_permission_changes(rt: HostRuntime) -> Result<(), Fail> {
             &[19000, 14000, 13000, 10500]
         )
     );
-    Ok(())
-}
-
-#[test]
-fn a_route_is_one_request(rt: HostRuntime) -> Result<(), Fail> {
-    let name = wlan(&rt);
-    let prefix = Prefix::new(Addr::V4(0x0a000000), 8).expect(&rt, "a prefix");
-    let way = Way::Direct;
-    let add = Command::RouteAdd {
-        net: 100,
-        name,
-        prefix,
-        way,
-    };
-    let old = with_interface(rt.alloc(), name)?;
-    let come = asked(rt.alloc(), &old, &add)?;
-    assert!(rt; is_route(come.adds(), 1002) && come.delete_count() == 0);
-
-    let new = old.step(&add)?;
-    let special = false;
-    let go = asked(
-        rt.alloc(),
-        &new,
-        &Command::RouteRemove {
-            net: 100,
-            name,
-            prefix,
-            special,
-        },
-    )?;
-    assert!(rt; is_route(go.deletes(), 1002) && go.add_count() == 0);
     Ok(())
 }
