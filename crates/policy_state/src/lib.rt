@@ -2,7 +2,6 @@
 #![tactic(auto)]
 
 mod change;
-mod command;
 mod fault;
 mod link;
 mod reasons;
@@ -10,7 +9,7 @@ mod routes;
 mod state;
 mod step;
 
-pub use command::{Command, Way};
+pub use commands::{Command, Way};
 pub use fault::StepFault;
 pub use link::Link;
 pub use state::State;
