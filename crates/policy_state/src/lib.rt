@@ -13,6 +13,3 @@ pub use commands::{Command, Way};
 pub use fault::StepFault;
 pub use link::Link;
 pub use state::State;
-
-#[cfg(test)]
-mod tests;
