@@ -4,6 +4,7 @@
 mod change;
 mod command;
 mod fault;
+mod laws;
 mod link;
 mod reasons;
 mod routes;
@@ -12,7 +13,9 @@ mod step;
 
 pub use command::{Command, Way};
 pub use fault::StepFault;
+pub use laws::table_rises;
 pub use link::Link;
+pub use routes::{key_of, route_of};
 pub use state::State;
 
 #[cfg(test)]
