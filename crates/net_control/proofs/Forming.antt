@@ -5,7 +5,7 @@ use Rattle.kernel_model.specs.Form.{IsWellFormedRule, IsWellFormed, AreWellForme
 use Rattle.kernel_model.specs.Segment.{done}
 use Rattle.kernel_model.specs.View.{KernelView, grown}
 use Rattle.kernel_model.specs.declared.request.Entry.{Entry}
-use Rattle.kernel_model.proofs.Alls.{all-append}
+use Rattle.list_lemmas.proofs.Alls.{all-append}
 use Rattle.kernel_model.proofs.Formed.{of_done, of_whole, of_halted}
 use Rattle.net_control.specs.Applied.{IsAnswered, IsTaken, adds_of, deletes_of}
 use Rattle.net_control.specs.Started.{IsStarted, start_adds}

@@ -6,7 +6,7 @@ use Rattle.std.proofs.lemmas.List.Elements.{Contains-append_right}
 use Rattle.std.proofs.lemmas.Option.{none-some}
 use Rattle.std.proofs.Math.Seq.{take-append_seam}
 use Rattle.std.specs.List.{AllByRecursion, Contains}
-use Rattle.kernel_model.proofs.Alls.{all-append}
+use Rattle.list_lemmas.proofs.Alls.{all-append}
 use Rattle.kernel_model.proofs.Replays.{replay-append}
 use Rattle.kernel_model.proofs.Stopped.{moments_go_on}
 use Rattle.kernel_model.specs.Journal.{is_broken, is_refused, replay, replay_from}

@@ -7,12 +7,10 @@ use Rattle.fwmark.specs.declared.permission.Permission.{Permission}
 use Rattle.net_names.specs.declared.code.Code.{Code}
 use Rattle.net_names.specs.declared.code.Code.TheVariants as code
 use Rattle.networks.specs.Lists.{find_id, find_link}
-use Rattle.networks.specs.Network.{has_link, routes_by, local_id}
+use Rattle.networks.specs.Network.{has_link, routes_by, local_id, is_keyed_by}
 use Rattle.networks.specs.declared.network.Network.{Network}
 use Rattle.networks.specs.declared.network.Kind.TheVariants as kind
-use Rattle.networks.specs.declared.network.LinkRoute.{LinkRoute}
 use Rattle.prefixes.specs.Addr.{family_of, same_family}
-use Rattle.prefixes.specs.Route.{same_key}
 use Rattle.prefixes.specs.declared.route.Out.{Out}
 use Rattle.prefixes.specs.declared.route.Out.TheVariants as out
 use Rattle.prefixes.specs.declared.prefix.Prefix.{Prefix}
@@ -152,10 +150,6 @@ with_link link n = if has_link n link then n else record n { interfaces = n.inte
 
 abbrev pub with_route : ℕ → Route → Network → Network
 with_route link route n = record n { routes = n.routes ++ record { link = link; route = route } ∷ [] }
-
--- the route belongs to the link and has the key
-abbrev pub is_keyed_by : ℕ → Route → LinkRoute → Bool
-is_keyed_by link key r = (r.link == link) && same_key r.route key
 
 abbrev pub without_route : ℕ → Route → Network → Network
 without_route link key n = record n { routes = filter (λ r. not (is_keyed_by link key r)) n.routes }

@@ -3,6 +3,7 @@
 
 mod change;
 mod fault;
+mod laws;
 mod link;
 mod reasons;
 mod routes;
@@ -11,5 +12,7 @@ mod step;
 
 pub use commands::{Command, Way};
 pub use fault::StepFault;
+pub use laws::table_rises;
 pub use link::Link;
+pub use routes::{key_of, route_of};
 pub use state::State;
