@@ -1,7 +1,8 @@
 -- Keys stay distinct.
 use Rattle.std.proofs.Common.{◌≡◌, ◌++◌, Bool, true, false, cond, not, List, [], ◌∷◌, refl, inl, inr}
-use Rattle.std.specs.List.{list_any, filter}
-use Rattle.std.proofs.lemmas.Bool.{cases_Bool, both_ways, or_parts, or_from, and_parts, and_from, not-true, not_from_false}
+use Rattle.std.specs.List.{filter}
+use Rattle.std.proofs.lemmas.Bool.{cases_Bool, both_ways, or_parts, and_parts, and_from, not-true, not_from_false}
+use Rattle.list_lemmas.proofs.Anys.{none-push, none-filter}
 use Rattle.prefixes.specs.Route.{same_key}
 use Rattle.prefixes.proofs.Sames.{same_key-sym}
 use Rattle.prefixes.specs.declared.route.Route.{Route}
@@ -12,22 +13,6 @@ apart-sym a b apart = elim (cases_Bool (same_key b a)) as (λ _. same_key b a �
   | inl same ↦ absurd (both_ways (same_key a b) apart (same_key-sym b a same))
   | inr other ↦ other
 ]
-
-none-push : (p : Route → Bool) (xs : List Route) (r : Route) → list_any p xs ≡ false → p r ≡ false → list_any p (xs ++ r ∷ []) ≡ false
-none-push p [] r none unlike = or_from (p r) false unlike refl
-none-push p (x ∷ xs) r none unlike =
-    let parts = or_parts (p x) (list_any p xs) none in
-    or_from (p x) (list_any p (xs ++ r ∷ [])) parts.0 (none-push p xs r parts.1 unlike)
-
-none-filter : (p q : Route → Bool) (xs : List Route) → list_any p xs ≡ false → list_any p (filter q xs) ≡ false
-none-filter p q [] none = refl
-none-filter p q (x ∷ xs) none =
-    let parts = or_parts (p x) (list_any p xs) none in
-    kept (q x) (none-filter p q xs parts.1) parts.0
-  where
-    kept : (b : Bool) → list_any p (filter q xs) ≡ false → p x ≡ false → list_any p (cond b (x ∷ filter q xs) (filter q xs)) ≡ false
-    kept true rest here = or_from (p x) (list_any p (filter q xs)) here rest
-    kept false rest here = rest
 
 -- a route whose key is absent goes last
 pub are_keys_distinct-push : (xs : List Route) (r : Route) → are_keys_distinct xs ≡ true → has_key xs r ≡ false → are_keys_distinct (xs ++ r ∷ []) ≡ true

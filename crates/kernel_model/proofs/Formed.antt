@@ -1,5 +1,5 @@
 -- What holds of each request of a plan holds of each entry that carrying it out leaves.
-use Rattle.std.proofs.Common.{◌≡◌, ℕ, zero, suc, List, [], ◌∷◌, map, reverse, take, Some, slice_get, inl, inr, sym, subst}
+use Rattle.std.proofs.Common.{◌≡◌, ℕ, List, [], ◌∷◌, map, reverse, take, Some, slice_get, inl, inr, sym, subst}
 use Rattle.std.specs.List.{AllByRecursion}
 use Rattle.kernel_model.specs.Journal.{entry}
 use Rattle.kernel_model.specs.Segment.{done, undone, IsWhole, IsHalted}
@@ -7,12 +7,7 @@ use Rattle.kernel_model.specs.declared.request.Entry.{Entry}
 use Rattle.kernel_model.specs.declared.request.EntryKind.{EntryKind}
 use Rattle.kernel_model.specs.declared.request.EntryKind.TheVariants.{Added, Deleted, Refused, Broken}
 use Rattle.kernel_model.specs.declared.request.Request.{Request}
-use Rattle.kernel_model.proofs.Alls.{all-append, all-reverse, all-take, all-map}
-
-all-there : {X : Type 0} (P : X → Type 0) (xs : List X) (place : ℕ) (x : X) → AllByRecursion P xs → slice_get xs place ≡ Some x → P x
-all-there P [] place x h at = absurd cc
-all-there P (y ∷ ys) zero x h at = let is : y ≡ x = cc in subst P is h.0
-all-there P (y ∷ ys) (suc place) x h at = all-there P ys place x h.1 at
+use Rattle.list_lemmas.proofs.Alls.{all-append, all-reverse, all-take, all-map, all-at}
 
 module _ (P : Request → Type 0) where
   abbrev OfEntry : Entry → Type 0
@@ -30,7 +25,7 @@ module _ (P : Request → Type 0) where
         let front : AllByRecursion P (take k adds) = all-take P k adds each_add in
         all-append OfEntry (map (entry Added) (take k adds)) (entry Refused refused ∷ map (entry Deleted) (reverse (take k adds)))
         (of_kind Added (take k adds) front)
-        (all-there P adds k refused each_add next, of_kind Deleted (reverse (take k adds)) (all-reverse P (take k adds) front))
+        (all-at P adds k refused each_add next, of_kind Deleted (reverse (take k adds)) (all-reverse P (take k adds) front))
 
     pub of_whole : (es : List Entry) → IsWhole adds deletes es → AllByRecursion OfEntry es
     of_whole es (inl is) = subst (AllByRecursion OfEntry) (sym is) of_done
@@ -41,4 +36,4 @@ module _ (P : Request → Type 0) where
         let all : AllByRecursion OfEntry is.whole = of_whole is.whole is.is_whole in
         subst (AllByRecursion OfEntry) (sym is.all)
         (all-append OfEntry (take is.at is.whole) (entry Broken is.request ∷ []) (all-take OfEntry is.at is.whole all)
-        (all-there OfEntry is.whole is.at (entry Deleted is.request) all is.stops, tt))
+        (all-at OfEntry is.whole is.at (entry Deleted is.request) all is.stops, tt))

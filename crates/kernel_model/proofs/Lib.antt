@@ -4,7 +4,6 @@ pub mod Requests
 pub mod Undoing
 pub mod Counts
 pub mod Seen
-pub mod Alls
 pub mod Held
 pub mod Stopped
 pub mod Switches

@@ -1,9 +1,9 @@
 -- What stays absent or present when another request is carried out.
-use Rattle.std.proofs.Common.{◌≡◌, ℕ, Bool, true, false, not, cond, ◌||◌, ◌==◌, inl, inr, List, [], ◌∷◌, ◌++◌, refl, sym, ◌∙◌, ap}
+use Rattle.std.proofs.Common.{◌≡◌, ℕ, Bool, true, false, not, cond, ◌==◌, inl, inr, List, [], ◌∷◌, ◌++◌, refl, sym, ◌∙◌, ap}
 use Rattle.std.specs.Bool.{if◌then◌else◌}
 use Rattle.std.specs.Prelude.{◌⊎◌}
-use Rattle.std.specs.List.{list_any}
 use Rattle.std.proofs.lemmas.Bool.{cases_Bool, both_ways, eqb-true, eq-eqb, or_left, or_right}
+use Rattle.std.proofs.lemmas.List.Folds.{list_any-append}
 use Rattle.prefixes.specs.Route.{same_route}
 use Rattle.prefixes.specs.declared.addr.Family.TheVariants as family
 use Rattle.prefixes.specs.declared.route.Route.{Route}
@@ -14,7 +14,7 @@ use Rattle.rule_law.proofs.Membership.{has_placed}
 use Rattle.rule_match.specs.Rule.{same_rule}
 use Rattle.rule_match.specs.declared.rule.Rule.{Rule}
 use Rattle.rule_match.proofs.Sames.{same_rule-true, same_rule-refl}
-use Rattle.kernel_model.specs.Kind.{rule_kind}
+use Rattle.rule_kinds.specs.Kind.{rule_kind}
 use Rattle.kernel_model.specs.Same.{same_request}
 use Rattle.kernel_model.specs.State.{KernelState, NumberedTable, routes_of, put_route, cut_route, add, delete, is_absent, is_present, is_route}
 use Rattle.kernel_model.specs.declared.request.Request.{Request}
@@ -36,14 +36,6 @@ has-without_other r x (y ∷ ys) apart h = step (has-without_other r x ys apart)
     step rest (inl goes) (inr other) = rw goes (rw other at h)
     step rest (inr stays) (inl is) = rw (stays, is) refl
     step rest (inr stays) (inr other) = rw (stays, other) (rest (rw other at h))
-
-pub any-append : {X : Type 0} (p : X → Bool) (xs ys : List X) → list_any p (xs ++ ys) ≡ (list_any p xs || list_any p ys)
-any-append p [] ys = refl
-any-append p (x ∷ xs) ys = ap (λ b. p x || b) (any-append p xs ys) ∙ sym (or_assoc (p x) (list_any p xs) (list_any p ys))
-  where
-    or_assoc : (a b c : Bool) → ((a || b) || c) ≡ (a || (b || c))
-    or_assoc true b c = refl
-    or_assoc false b c = refl
 
 apart_from : (t m n : ℕ) → (t == m) ≡ false → (t == n) ≡ true → (m == n) ≡ false
 apart_from t m n miss at = elim (cases_Bool (m == n)) as (λ _. (m == n) ≡ false) [
@@ -136,14 +128,14 @@ present-after_add k (req.Route m a) (req.Rule family.V6 b) h = h
 present-after_add k (req.Route m a) (req.Route n b) h = rw (routes-put m n a k.tables) (grown (m == n))
   where
     grown : (c : Bool) → has_route (if c then routes_of n k.tables ++ a ∷ [] else routes_of n k.tables) b ≡ true
-    grown true = any-append (λ x. same_route x b) (routes_of n k.tables) (a ∷ []) ∙ or_left _ _ h
+    grown true = list_any-append (λ x. same_route x b) (routes_of n k.tables) (a ∷ []) ∙ or_left _ _ h
     grown false = h
 
 pub present-of_added : (k : KernelState) (q : Request) → is_present (add k q) q ≡ true
 present-of_added k (req.Rule family.V4 a) = placed-present a k.rules4
 present-of_added k (req.Rule family.V6 a) = placed-present a k.rules6
 present-of_added k (req.Route n a) =
-    rw (routes-put n n a k.tables, eq-eqb n n refl) (any-append (λ x. same_route x a) (routes_of n k.tables) (a ∷ []) ∙ or_right _ _ (or_left _ _ (same_route-refl a)))
+    rw (routes-put n n a k.tables, eq-eqb n n refl) (list_any-append (λ x. same_route x a) (routes_of n k.tables) (a ∷ []) ∙ or_right _ _ (or_left _ _ (same_route-refl a)))
 
 -- a deletion takes away nothing else
 pub present-after_delete : (k : KernelState) (p q : Request) → same_request p q ≡ false → is_present k q ≡ true → is_present (delete k p) q ≡ true

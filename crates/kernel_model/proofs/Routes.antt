@@ -12,7 +12,7 @@ use Rattle.rule_law.specs.Plans.{GoesOver, GoesOverAndBack}
 use Rattle.rule_law.specs.Rules as law
 use Rattle.rule_match.specs.declared.packet.Packet.{Packet}
 use Rattle.rule_match.specs.declared.rule.Rule.{Rule}
-use Rattle.kernel_model.specs.Kind.{rule_kind}
+use Rattle.rule_kinds.specs.Kind.{rule_kind}
 use Rattle.kernel_model.specs.State.{KernelState, NumberedTable, rules_of, routes_of, put_route, cut_route, own_rule, add, delete}
 use Rattle.kernel_model.specs.Journal.{entry, act, replay_from}
 use Rattle.kernel_model.specs.Segment.{done, undone, IsSegment}

@@ -1,9 +1,10 @@
 -- The test of equal requests is exact.
 use Rattle.std.proofs.Common.{◌≡◌, true, false, ◌==◌, inl, inr, ap, ◌∙◌}
 use Rattle.std.proofs.lemmas.Bool.{and_parts, and_from, eqb-true, false≢true, both_ways, cases_Bool}
+use Rattle.list_lemmas.proofs.Numbers.{eqb-refl}
 use Rattle.prefixes.specs.Addr.{same_family}
 use Rattle.prefixes.specs.Route.{same_route}
-use Rattle.prefixes.proofs.Sames.{eqb-refl, same_family-true, same_family-refl, same_route-true, same_route-refl}
+use Rattle.prefixes.proofs.Sames.{same_family-true, same_family-refl, same_route-true, same_route-refl}
 use Rattle.rule_match.specs.Rule.{same_rule}
 use Rattle.rule_match.proofs.Sames.{same_rule-true, same_rule-refl}
 use Rattle.kernel_model.specs.Same.{same_request}

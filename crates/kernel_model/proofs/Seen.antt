@@ -6,7 +6,7 @@ use Rattle.prefixes.specs.declared.addr.Family.TheVariants as family
 use Rattle.prefixes.specs.declared.route.Route.{Route}
 use Rattle.rule_law.specs.Plans.{Request as Step, Add, Delete, Other, step, after, concerning, plan, beyond, undone as undo}
 use Rattle.rule_match.specs.declared.rule.Rule.{Rule}
-use Rattle.kernel_model.specs.Kind.{rule_kind}
+use Rattle.rule_kinds.specs.Kind.{rule_kind}
 use Rattle.kernel_model.specs.State.{KernelState, rules_of}
 use Rattle.kernel_model.specs.Journal.{entry, act, replay_from}
 use Rattle.kernel_model.specs.Segment.{done, undone}

@@ -3,15 +3,16 @@ use Rattle.std.proofs.Common.{◌≡◌, ℕ, ◌==◌, ◌||◌, Bool, true, fa
 use Rattle.std.specs.Prelude.{◌⊎◌}
 use Rattle.std.specs.Bool.{if◌then◌else◌}
 use Rattle.std.specs.List.{list_any}
-use Rattle.std.proofs.lemmas.Bool.{cases_Bool, or_parts, both_ways, false≢true, eq-eqb, eqb-true}
+use Rattle.std.proofs.lemmas.Bool.{cases_Bool, or_parts, both_ways, false≢true}
 use Rattle.std.proofs.Math.Seq.{take-length}
+use Rattle.list_lemmas.proofs.Numbers.{unlike-sym}
 use Rattle.prefixes.specs.Route.{same_route}
 use Rattle.prefixes.specs.declared.route.Route.{Route}
 use Rattle.prefixes.proofs.Sames.{same_route-true, same_route-refl}
 use Rattle.fib_table.specs.Table.{has_route, without_route, routes_in}
 use Rattle.rule_law.specs.Rules as law
 use Rattle.rule_match.specs.declared.rule.Rule.{Rule}
-use Rattle.kernel_model.specs.Kind.{rule_kind}
+use Rattle.rule_kinds.specs.Kind.{rule_kind}
 use Rattle.kernel_model.specs.State.{KernelState, rules_of, routes_of, own_rule, cut_route}
 use Rattle.kernel_model.specs.Journal.{replay_from}
 use Rattle.kernel_model.specs.Stands.{Stands}
@@ -70,14 +71,8 @@ own_kept : (gone : List (ℕ × Route)) (rules : List Rule) → AreUnused gone (
 own_kept [] rules unused = refl
 own_kept (g ∷ gone) rules unused =
     let mine = (or_parts (looks_in g.0 own_rule) (list_any (looks_in g.0) rules) unused.0).0 in
-    step (g.0 == 255) (own_table g.0 mine) (own_kept gone rules unused.1)
+    step (g.0 == 255) (unlike-sym 255 g.0 mine) (own_kept gone rules unused.1)
   where
-    own_table : (n : ℕ) → (255 == n) ≡ false → (n == 255) ≡ false
-    own_table n other = elim (cases_Bool (n == 255)) as (λ _. (n == 255) ≡ false) [
-      | inl same ↦ absurd (both_ways (255 == n) other (eq-eqb 255 n (sym (eqb-true n 255 same))))
-      | inr apart ↦ apart
-    ]
-
     step : (b : Bool) → b ≡ false → routes_in 255 gone ≡ [] → map (λ (r : ℕ × Route). r.1) (cond b (g ∷ filter (λ (r : ℕ × Route). r.0 == 255) gone) (filter (λ (r : ℕ × Route). r.0 == 255) gone)) ≡ []
     step true apart rest = absurd (false≢true (sym apart))
     step false apart rest = rest

@@ -5,9 +5,10 @@ use Rattle.std.specs.Option.{option_map}
 use Rattle.fib_table.specs.Table.{without_route}
 use Rattle.std.specs.Bool.{if◌then◌else◌}
 use Rattle.std.specs.List.{list_any, AllByRecursion}
-use Rattle.std.proofs.lemmas.Bool.{cases_Bool, cases_lt, or_parts, false≢true, both_ways, eq-eqb, eqb-true}
+use Rattle.std.proofs.lemmas.Bool.{cases_Bool, cases_lt, or_parts, false≢true}
 use Rattle.std.proofs.lemmas.List.{map-append, take-map, take-append-le, append-nil, length-map}
 use Rattle.std.proofs.Math.Seq.{take-append-add, take-length}
+use Rattle.list_lemmas.proofs.Numbers.{unlike-sym}
 use Rattle.prefixes.specs.Addr.{family_of}
 use Rattle.prefixes.specs.Best.{answer}
 use Rattle.prefixes.specs.declared.addr.Family.{Family}
@@ -28,8 +29,8 @@ use Rattle.rule_match.specs.declared.rule.Rule.{Rule}
 use Rattle.rule_match.specs.declared.verdict.Verdict.{Verdict}
 use Rattle.rule_match.specs.declared.verdict.Verdict.TheVariants as verdict
 use Rattle.rule_match.proofs.Sames.{same_rule-true}
-use Rattle.kernel_model.specs.Kind.{rule_kind}
-use Rattle.kernel_model.specs.KindLaws.{alike as alike_rules, alike_self}
+use Rattle.rule_kinds.specs.Kind.{rule_kind}
+use Rattle.rule_kinds.specs.KindLaws.{alike as alike_rules, alike_self}
 use Rattle.kernel_model.specs.State.{KernelState, NumberedTable, rules_of, routes_of, own_rule, cut_route, is_route}
 use Rattle.kernel_model.specs.Journal.{entry, act, replay_from}
 use Rattle.kernel_model.specs.Segment.{done, undone}
@@ -39,7 +40,7 @@ use Rattle.kernel_model.specs.declared.request.Entry.{Entry}
 use Rattle.kernel_model.specs.declared.request.EntryKind.TheVariants.{Added, Deleted, Refused}
 use Rattle.kernel_model.specs.declared.request.Request.{Request}
 use Rattle.kernel_model.specs.declared.request.Request.TheVariants as req
-use Rattle.kernel_model.proofs.Alls.{all-append, all-reverse, all-take, all-map}
+use Rattle.list_lemmas.proofs.Alls.{all-append, all-reverse, all-take, all-map}
 use Rattle.kernel_model.proofs.Held.{over-same, back-same}
 use Rattle.kernel_model.proofs.Replays.{replay_from-append}
 use Rattle.kernel_model.proofs.Requests.{routes-cut}
@@ -108,17 +109,11 @@ kept_routes k n gone zero h = refl
 kept_routes k n [] (suc m) h = refl
 kept_routes k n (r ∷ gone) (suc m) h =
     let next : KernelState = record k { tables = cut_route r.0 r.1 k.tables } in
-    kept_routes next n gone m h.1 ∙ routes-cut r.0 n r.1 k.tables ∙ other (r.0 == n) (eqb-flip n r.0 h.0)
+    kept_routes next n gone m h.1 ∙ routes-cut r.0 n r.1 k.tables ∙ other (r.0 == n) (unlike-sym n r.0 h.0)
   where
     other : (b : Bool) → b ≡ false → (if b then without_route (routes_of n k.tables) r.1 else routes_of n k.tables) ≡ routes_of n k.tables
     other true e = absurd (false≢true (sym e))
     other false e = refl
-
-    eqb-flip : (a b : ℕ) → (a == b) ≡ false → (b == a) ≡ false
-    eqb-flip a b h = elim (cases_Bool (b == a)) as (λ _. (b == a) ≡ false) [
-      | inl same ↦ absurd (both_ways (a == b) h (eq-eqb a b (sym (eqb-true b a same))))
-      | inr apart ↦ apart
-    ]
 
 -- a rule that looks in no table that loses a route gives what it gave
 gives-same : (p : Packet) (before after : List NumberedTable) (does : Action) (gone : List (ℕ × Route)) → AllByRecursion (λ (r : ℕ × Route). same_action does (action.Table r.0) ≡ false) gone

@@ -8,7 +8,7 @@ use Rattle.rule_law.specs.Rules.{has, placed, without}
 use Rattle.rule_match.specs.Rule.{same_rule}
 use Rattle.rule_match.specs.declared.rule.Rule.{Rule}
 use Rattle.rule_match.proofs.Sames.{same_rule-refl}
-use Rattle.kernel_model.specs.Kind.{rule_kind}
+use Rattle.rule_kinds.specs.Kind.{rule_kind}
 use Rattle.kernel_model.specs.State.{KernelState, add, delete, is_absent, is_route, with_rules}
 use Rattle.kernel_model.specs.Journal.{entry, replay_from, well_asked}
 use Rattle.kernel_model.specs.declared.request.Request.{Request}

@@ -1,5 +1,5 @@
-pub mod KindLaws
-pub mod Kind
+pub use Rattle.rule_kinds.specs.KindLaws
+pub use Rattle.rule_kinds.specs.Kind
 pub mod Same
 pub mod State
 pub mod Journal

@@ -1,6 +1,7 @@
 -- What a kernel is, after the ip-rule manual: a list of rules for each family, and tables of routes.
 use Rattle.std.specs.Prelude.{ℕ, Bool, true, false, not, ◌==◌, if◌then◌else◌, List, [], ◌∷◌, ◌++◌, None, refl}
 use Rattle.std.proofs.Common.{lit≤}
+use Rattle.rule_match.specs.Packet.{lo}
 use Rattle.fib_table.specs.Table.{has_key, has_route, without_route}
 use Rattle.prefixes.specs.declared.addr.Addr.TheVariants as addr
 use Rattle.prefixes.specs.declared.addr.Family.{Family}
@@ -10,7 +11,7 @@ use Rattle.prefixes.specs.declared.route.Route.{Route}
 use Rattle.rule_law.specs.Rules.{has, placed, without}
 use Rattle.rule_match.specs.declared.rule.Action.TheVariants as action
 use Rattle.rule_match.specs.declared.rule.Rule.{Rule}
-use Rattle.kernel_model.specs.Kind.{rule_kind}
+use Rattle.rule_kinds.specs.Kind.{rule_kind}
 use Rattle.kernel_model.specs.declared.request.Request.{Request}
 use Rattle.kernel_model.specs.declared.request.Request.TheVariants as req
 
@@ -76,20 +77,24 @@ abbrev pub is_route : Request → Bool
 is_route (req.Rule f rule) = false
 is_route (req.Route n route) = true
 
--- the rule that each family has from the start: it selects nothing and looks in table 255
-abbrev pub own_rule : Rule
-own_rule = record { priority = 0; mark = 0; mask = 0; incoming = None; outgoing = None; uids = None; action = action.Table 255 }
+-- the table of the device's own addresses
+abbrev pub device_table : ℕ
+device_table = 255
 
--- 127.0.0.0/8 and ::1/128, both out by link 1
+-- the rule that each family has from the start: it selects nothing and looks in that table
+abbrev pub own_rule : Rule
+own_rule = record { priority = 0; mark = 0; mask = 0; incoming = None; outgoing = None; uids = None; action = action.Table device_table }
+
+-- 127.0.0.0/8 and ::1/128, both out by `lo`
 abbrev pub loopback4 : Route
-loopback4 = record { prefix = record { base = addr.V4 2130706432; len = 8; is_prefix = (lit≤ tt, refl) }; out = out.Dev 1 None }
+loopback4 = record { prefix = record { base = addr.V4 2130706432; len = 8; is_prefix = (lit≤ tt, refl) }; out = out.Dev lo None }
 
 abbrev pub loopback6 : Route
-loopback6 = record { prefix = record { base = addr.V6 1; len = 128; is_prefix = (lit≤ tt, refl) }; out = out.Dev 1 None }
+loopback6 = record { prefix = record { base = addr.V6 1; len = 128; is_prefix = (lit≤ tt, refl) }; out = out.Dev lo None }
 
 abbrev pub loopback : List Route
 loopback = loopback4 ∷ loopback6 ∷ []
 
 -- the starting kernel
 abbrev pub start : KernelState
-start = record { rules4 = own_rule ∷ []; rules6 = own_rule ∷ []; tables = record { number = 255; routes = loopback } ∷ [] }
+start = record { rules4 = own_rule ∷ []; rules6 = own_rule ∷ []; tables = record { number = device_table; routes = loopback } ∷ [] }

@@ -12,7 +12,7 @@ use Rattle.rule_match.specs.declared.packet.Packet.{Packet}
 use Rattle.rule_match.specs.declared.rule.Action.TheVariants as action
 use Rattle.rule_match.specs.declared.rule.Rule.{Rule}
 use Rattle.rule_match.specs.declared.verdict.Verdict.{Verdict}
-use Rattle.kernel_model.specs.Kind.{rule_kind}
+use Rattle.rule_kinds.specs.Kind.{rule_kind}
 use Rattle.kernel_model.specs.Journal.{replay_from}
 use Rattle.kernel_model.specs.Moments.{moment_from}
 use Rattle.kernel_model.specs.Segment.{done}

@@ -13,12 +13,12 @@ use Rattle.rule_match.specs.declared.packet.Packet.{Packet}
 use Rattle.rule_match.specs.declared.rule.Rule.{Rule}
 use Rattle.rule_match.specs.declared.verdict.Verdict.{Verdict}
 use Rattle.rule_match.specs.declared.verdict.Verdict.TheVariants as verdict
-use Rattle.kernel_model.specs.State.{KernelState, NumberedTable, rules_of, routes_of}
+use Rattle.kernel_model.specs.State.{KernelState, NumberedTable, rules_of, routes_of, device_table}
 use Rattle.kernel_model.specs.declared.step.Step.{Step}
 
--- what a table's answer means: a device route of table 255 leads to the device itself
+-- what a table's answer means: a device route of table 255, the device table, leads to the device itself
 abbrev pub verdict_by : ℕ → Answer → Verdict
-verdict_by n (to.Out link gateway) = if n == 255 then verdict.Local else verdict.Out link gateway
+verdict_by n (to.Out link gateway) = if n == device_table then verdict.Local else verdict.Out link gateway
 verdict_by n to.Unreachable = verdict.Unreachable
 
 -- what an action gives the packet: a table that answers nothing lets the walk go on

@@ -14,4 +14,4 @@ pub use laws::{ends, goes_over, goes_over_and_back, moments_go_on};
 pub use plan::Plan;
 pub use request::{Entry, EntryKind, Request};
 pub use step::Step;
-pub use walk::verdict_by;
+pub use walk::{DEVICE_TABLE, verdict_by};

@@ -5,14 +5,14 @@ use prefixes::Answer;
 use rule_match::Verdict;
 
 /// The table of the device's own addresses.
-const OWN_TABLE: u32 = 255;
+pub const DEVICE_TABLE: u32 = 255;
 
-/// The verdict of a table's answer. What table 255 sends out by a link is for the device itself.
+/// The verdict of a table's answer. What this table sends out by a link is for the device itself.
 pub fn verdict_by(table: u32, answer: Answer) -> Verdict
     ensures { result ≡ verdict_by table answer }
 {
     match answer {
-        Answer::Out { .. } if table == OWN_TABLE => Verdict::Local,
+        Answer::Out { .. } if table == DEVICE_TABLE => Verdict::Local,
         Answer::Out { link, gateway } => Verdict::Out { link, gateway },
         Answer::Unreachable => Verdict::Unreachable,
     }

@@ -1,4 +1,3 @@
-pub mod Places
 pub mod Histories
 pub mod Changing
 pub mod TwoTables

@@ -19,7 +19,7 @@ use Rattle.kernel_model.specs.declared.request.Entry.{Entry}
 use Rattle.policy_state.specs.Step.{FitsTypes, refusal, changed}
 use Rattle.policy_state.specs.Table.{rule_table, route_list}
 use Rattle.policy_state.specs.View.{StateView}
-use Rattle.policy_state.specs.declared.command.Command.{Command}
+use Rattle.commands.specs.declared.command.Command.{Command}
 use Rattle.rule_compile.specs.Asked.{asked, carried, MayStep}
 use Rattle.plan_exec.specs.Carries.{Carries}
 use Rattle.plan_exec.specs.declared.Carried.TheVariants.{Done, Halted}
@@ -131,10 +131,12 @@ no_other_table n other = elim (eqb_tells 255 n) as (λ _. routes_of n start_stat
 ]
 
 start_rises : law.Rises rule_kind (own_rule ∷ rule_table start)
+unfolding rule_table
 start_rises = ((lit≤ tt, (lit≤ tt, (lit≤ tt, tt))), ((lit≤ tt, (lit≤ tt, tt)), ((lit≤ tt, tt), (tt, tt))))
 
 -- the kernel that was asked for the rules of the start
 pub start_stands : Stands (replay_from start_state (done start_adds [])) (rule_table start) (route_list start)
+unfolding rule_table
 start_stands = record {
   in_family = in_each;
   own_table = refl;

@@ -6,7 +6,7 @@ use Rattle.std.proofs.lemmas.List.Elements.{Contains-append_right}
 use Rattle.std.proofs.lemmas.Option.{none-some}
 use Rattle.std.proofs.Math.Seq.{take-append_seam}
 use Rattle.std.specs.List.{AllByRecursion, Contains}
-use Rattle.kernel_model.proofs.Alls.{all-append}
+use Rattle.list_lemmas.proofs.Alls.{all-append}
 use Rattle.kernel_model.proofs.Replays.{replay-append}
 use Rattle.kernel_model.proofs.Stopped.{moments_go_on}
 use Rattle.kernel_model.specs.Journal.{is_broken, is_refused, replay, replay_from}
@@ -31,7 +31,7 @@ use Rattle.policy_meaning.specs.Policy.{IsBarred, policy}
 use Rattle.policy_meaning.specs.Promise.{StaysIn}
 use Rattle.policy_state.specs.Step.{changed}
 use Rattle.policy_state.specs.View.{StateView, start}
-use Rattle.policy_state.specs.declared.command.Command.{Command}
+use Rattle.commands.specs.declared.command.Command.{Command}
 use Rattle.rule_law.specs.Plans.{GoesOver, GoesOverAndBack}
 use Rattle.fwmark.specs.Mark.{is_protected}
 use Rattle.rule_match.specs.Packet.{is_made}

@@ -1,9 +1,10 @@
 -- Networks: their interfaces, their routes and their users.
-use Rattle.std.specs.Prelude.{ℕ, ◌==◌, Bool, false, List, [], map, filter}
+use Rattle.std.specs.Prelude.{ℕ, ◌==◌, ◌&&◌, Bool, false, List, [], map, filter}
 use Rattle.std.specs.List.{list_any}
 use Rattle.networks.specs.declared.network.Kind.TheVariants as kind
 use Rattle.networks.specs.declared.network.LinkRoute.{LinkRoute}
 use Rattle.networks.specs.declared.network.Network.{Network}
+use Rattle.prefixes.specs.Route.{same_key}
 use Rattle.prefixes.specs.declared.route.Route.{Route}
 use Rattle.uid_ranges.specs.Ranges.{any_holds}
 
@@ -14,6 +15,10 @@ has_link network link = list_any (λ other. other == link) network.interfaces
 -- the routes that belong to this interface, in order
 abbrev pub routes_by : ℕ → List LinkRoute → List Route
 routes_by link routes = map (λ r. r.route) (filter (λ r. r.link == link) routes)
+
+-- the route belongs to the link and has this one's key
+abbrev pub is_keyed_by : ℕ → Route → LinkRoute → Bool
+is_keyed_by link key r = (r.link == link) && same_key r.route key
 
 -- the network is a VPN of this user
 abbrev pub holds_user : Network → ℕ → Bool

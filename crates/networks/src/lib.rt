@@ -5,7 +5,7 @@ mod network;
 mod networks_by_id;
 
 pub use network::{Kind, LinkRoute, LinkRoutes, Links, Network};
-pub use networks_by_id::Networks;
+pub use networks_by_id::{LOCAL_ID, Networks};
 
 #[cfg(test)]
 mod tests;

@@ -1,6 +1,5 @@
-ghost use Rattle.std.specs.Prelude.{◌≡◌, ◌++◌, ◌∷◌, [], ◌==◌, ◌&&◌, filter, not, IfOk};
-ghost use Rattle.networks.specs.Network.{has_link, holds_user};
-ghost use Rattle.prefixes.specs.Route.{same_key};
+ghost use Rattle.std.specs.Prelude.{◌≡◌, ◌++◌, ◌∷◌, [], filter, not, IfOk};
+ghost use Rattle.networks.specs.Network.{has_link, holds_user, is_keyed_by};
 
 use fwmark::Permission;
 use prefixes::{Route, same_key};
@@ -70,7 +69,7 @@ pub struct LinkRoute {
 impl LinkRoute {
     /// Whether the route is the link's and has this one's key.
     pub fn is_keyed_by(&self, link: u16, key: &Route) -> bool
-        ensures { result ≡ ((self.now.link == link) && same_key self.now.route key.now) }
+        ensures { result ≡ is_keyed_by link key.now self.now }
     {
         self.link == link && same_key(&self.route, key)
     }
@@ -131,7 +130,7 @@ impl LinkRoutes {
 
     /// The list without the link's routes of this one's key, in its order.
     pub fn without(&self, link: u16, key: &Route) -> Result<LinkRoutes, AllocError>
-        ensures { IfOk result (λ routes. routes ≡ filter (λ r. not ((r.link == link) && same_key r.route key.now)) self.now) }
+        ensures { IfOk result (λ routes. routes ≡ filter (λ r. not (is_keyed_by link key.now r)) self.now) }
     {
         let alloc = *self.items.allocator();
         let items = self

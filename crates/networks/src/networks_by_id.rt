@@ -10,7 +10,7 @@ use std::marker::Model;
 use uid_ranges::Uid;
 
 /// The id of the local network, as netd has it.
-const LOCAL_ID: u16 = 99;
+pub const LOCAL_ID: u16 = 99;
 
 /// The networks in the order of their creation.
 #[derive(Debug, Drop)]

@@ -12,7 +12,7 @@ use Rattle.kernel_model.specs.declared.request.Request.{Request}
 use Rattle.kernel_model.specs.declared.request.Request.TheVariants as req
 use Rattle.kernel_model.specs.declared.request.EntryKind.{EntryKind}
 use Rattle.kernel_model.specs.declared.request.EntryKind.TheVariants.{Added, Deleted, Refused}
-use Rattle.kernel_model.proofs.Alls.{all-append, all-append_parts, all-reverse, all-take}
+use Rattle.list_lemmas.proofs.Alls.{all-append, all-append_parts, all-reverse, all-take}
 use Rattle.kernel_model.proofs.Replays.{replay-append}
 use Rattle.kernel_model.proofs.Sames.{same_request-sym}
 use Rattle.kernel_model.proofs.Requests.{absent-after_add, present-after_add, present-of_added, present-after_delete}

@@ -12,7 +12,7 @@ use Rattle.kernel_model.specs.declared.request.Entry.{Entry}
 use Rattle.kernel_model.specs.declared.request.EntryKind.TheVariants.{Refused, Broken}
 use Rattle.kernel_model.specs.declared.request.Request.{Request}
 use Rattle.kernel_model.specs.declared.request.Request.TheVariants as req
-use Rattle.kernel_model.proofs.Alls.{all-take}
+use Rattle.list_lemmas.proofs.Alls.{all-take}
 use Rattle.kernel_model.proofs.Counts.{refusals-grown, breaks-grown, refused-done, broken-done, refused-undone, broken-undone, broken-halted}
 use Rattle.kernel_model.proofs.Replays.{replay-append, well_asked-append}
 use Rattle.kernel_model.proofs.Undoing.{replay-undone}

@@ -1,7 +1,7 @@
 -- One more request of a list.
-use Rattle.std.proofs.Common.{◌≡◌, ℕ, zero, suc, ◌+◌, List, [], ◌∷◌, ◌++◌, map, take, drop, Some, slice_get, refl, sym, ◌∙◌, ap, subst, add-one}
+use Rattle.std.proofs.Common.{◌≡◌, ℕ, ◌+◌, List, [], ◌∷◌, ◌++◌, map, take, drop, Some, slice_get, refl, sym, ◌∙◌, ap, subst}
 use Rattle.std.proofs.lemmas.List.{map-append}
-use Rattle.std.proofs.lemmas.Option.{none-some, same_Some}
+use Rattle.list_lemmas.proofs.Places.{take-next, drop-next}
 use Rattle.kernel_model.specs.View.{KernelView, Room}
 use Rattle.kernel_model.specs.Journal.{entry}
 use Rattle.kernel_model.specs.declared.request.Entry.{Entry}
@@ -17,32 +17,16 @@ pub after-append : (k : Standing) (es fs : List Entry) → after k (es ++ fs) �
 after-append k [] fs = refl
 after-append k (e ∷ es) fs = after-append (noted k e) es fs
 
-pub drop_next : (qs : List Request) (i : ℕ) (q : Request) → slice_get qs i ≡ Some q → drop i qs ≡ q ∷ drop (i + 1) qs
-drop_next qs i q h = rw add-one (go qs i h)
-  where
-    go : (qs : List Request) (i : ℕ) → slice_get qs i ≡ Some q → drop i qs ≡ q ∷ drop (suc i) qs
-    go [] i h = absurd (none-some q h)
-    go (x ∷ xs) zero h = ap (λ y. y ∷ xs) (same_Some x q h)
-    go (x ∷ xs) (suc i) h = go xs i h
-
-pub take_next : (qs : List Request) (i : ℕ) (q : Request) → slice_get qs i ≡ Some q → take (i + 1) qs ≡ take i qs ++ q ∷ []
-take_next qs i q h = rw add-one (go qs i h)
-  where
-    go : (qs : List Request) (i : ℕ) → slice_get qs i ≡ Some q → take (suc i) qs ≡ take i qs ++ q ∷ []
-    go [] i h = absurd (none-some q h)
-    go (x ∷ xs) zero h = ap (λ y. y ∷ []) (same_Some x q h)
-    go (x ∷ xs) (suc i) h = ap (λ l. x ∷ l) (go xs i h)
-
 -- one request more was carried out
 pub made_more : (kind : EntryKind) (old mid new : Standing) (qs : List Request) (i : ℕ) (q : Request) → slice_get qs i ≡ Some q → mid ≡ after old (map (entry kind) (take i qs)) → new ≡ noted mid (entry kind q)
     → new ≡ after old (map (entry kind) (take (i + 1) qs))
 made_more kind old mid new qs i q at made grew =
     grew ∙ ap (λ k. noted k (entry kind q)) made
-    ∙ sym (ap (λ l. after old (map (entry kind) l)) (take_next qs i q at) ∙ ap (after old) (map-append (entry kind) (take i qs) (q ∷ [])) ∙ after-append old (map (entry kind) (take i qs)) (entry kind q ∷ []))
+    ∙ sym (ap (λ l. after old (map (entry kind) l)) (take-next qs i q at) ∙ ap (after old) (map-append (entry kind) (take i qs) (q ∷ [])) ∙ after-append old (map (entry kind) (take i qs)) (entry kind q ∷ []))
 
 -- the next request may be asked for
 pub add_next : (k : Standing) (qs : List Request) (i : ℕ) (q : Request) → slice_get qs i ≡ Some q → MayAddInTurn k (drop i qs) → MayAdd k q × MayAddInTurn (noted k (entry Added q)) (drop (i + 1) qs)
-add_next k qs i q at may = subst (MayAddInTurn k) (drop_next qs i q at) may
+add_next k qs i q at may = subst (MayAddInTurn k) (drop-next qs i q at) may
 
 pub delete_next : (k : Standing) (qs : List Request) (i : ℕ) (q : Request) → slice_get qs i ≡ Some q → MayDeleteInTurn k (drop i qs) → MayDelete k q × MayDeleteInTurn (noted k (entry Deleted q)) (drop (i + 1) qs)
-delete_next k qs i q at may = subst (MayDeleteInTurn k) (drop_next qs i q at) may
+delete_next k qs i q at may = subst (MayDeleteInTurn k) (drop-next qs i q at) may

@@ -4,6 +4,7 @@ use Rattle.std.specs.Prelude.{◌||◌, flat_map, if◌then◌else◌}
 use Rattle.std.specs.List.{list_any}
 use Rattle.std.specs.Option.{option_map, option_or, option_and_then}
 use Rattle.std.proofs.lemmas.Bool.Decides.{nat_tests}
+use Rattle.list_lemmas.proofs.Numbers.{eqb-turned, is_there}
 use Rattle.fwmark.specs.Mark.{net_of, is_explicit, is_protected, permission_of_mark}
 use Rattle.fwmark.specs.Permission.{suffices}
 use Rattle.fwmark.specs.Selection.{Selection, selects as mark_selects, mask_of, value_of}
@@ -33,11 +34,10 @@ use Rattle.kernel_model.specs.State.{NumberedTable, routes_of}
 use Rattle.kernel_model.specs.Walk.{gives as action_gives, rule_gives, verdict_by}
 use Rattle.policy_state.specs.View.{StateView, IsGood, IsPhysical}
 use Rattle.policy_state.specs.Table.{Level, RootInterface, Lockdown, Explicit, BoundInterface, LocalNetwork, Implicit, Last, PhysicalLink, physical_links_of, physical_links, is_free as is_free_link, link_table, permission_word, root_range, rules_at, root_interface_rule, lockdown_rule, explicit_rule, explicit_local_rule, bound_rule, local_rule, implicit_rule, last_rule, route_list}
-use Rattle.policy_state.proofs.PhysicalLinks.{network_at, links_of-physical, is_there}
+use Rattle.policy_state.proofs.PhysicalLinks.{network_at, links_of-physical}
 use Rattle.policy_state.proofs.Levels.{explicitly, implicitly, explicit-selects, implicit-selects}
 use Rattle.policy_meaning.specs.Policy.{first_answer, asks_link, asks, may_choose, is_free, asks_named, asks_bound, asks_local, root_interface, is_barred}
 use Rattle.policy_meaning.proofs.Given.{given, only_if, or-none, walk-given, given-one, given-append, given-map, given-flat, given-filter, given-same, given-if, first_of-map, given-found, given-number, then-if}
-use Rattle.policy_meaning.proofs.Loopback.{eqb-turned}
 use Rattle.policy_meaning.proofs.Single.{one_named, one_linked}
 use Rattle.policy_meaning.proofs.Tables.{link-routes, local-routes}
 

@@ -2,7 +2,7 @@
 use Rattle.std.proofs.Common.{◌≡◌, ◌/◌, ◌^◌, ◌==◌, ◌&&◌, ℕ, Bool, true, false, None, Some, Option, refl, ◌∙◌, ap, arith}
 use Rattle.std.specs.Prelude.{if◌then◌else◌}
 use Rattle.std.specs.Option.{option_map}
-use Rattle.std.proofs.lemmas.Bool.Decides.{nat_tests}
+use Rattle.list_lemmas.proofs.Numbers.{eqb-turned}
 use Rattle.prefixes.specs.Best.{answer}
 use Rattle.prefixes.specs.Route.{fits, suits}
 use Rattle.prefixes.specs.declared.addr.Addr.{Addr}
@@ -11,9 +11,6 @@ use Rattle.rule_match.specs.declared.verdict.Verdict.TheVariants as verdict
 use Rattle.kernel_model.specs.State.{loopback, loopback4, loopback6}
 use Rattle.kernel_model.specs.Walk.{verdict_by}
 use Rattle.policy_meaning.specs.Policy.{is_loopback, may_use_lo}
-
-pub eqb-turned : (m n : ℕ) → (m == n) ≡ (n == m)
-eqb-turned m n = grind (arith, nat_tests)
 
 suits_lo : (bound : Option ℕ) → suits (Some 1) bound ≡ may_use_lo bound
 suits_lo None = refl

@@ -14,7 +14,7 @@ use Rattle.rule_match.specs.Packet.{is_made}
 use Rattle.rule_match.specs.declared.packet.Packet.{Packet}
 use Rattle.rule_match.specs.declared.verdict.Verdict.{Verdict}
 use Rattle.rule_match.specs.declared.verdict.Verdict.TheVariants as verdict
-use Rattle.kernel_model.specs.Kind.{rule_kind}
+use Rattle.rule_kinds.specs.Kind.{rule_kind}
 use Rattle.kernel_model.specs.Stands.{Stands}
 use Rattle.kernel_model.specs.State.{KernelState, rules_of, routes_of, own_rule, loopback, start as kernel_start}
 use Rattle.kernel_model.specs.Walk.{rule_gives, verdict_by, walk}
@@ -39,6 +39,7 @@ none_is (Some x) h = absurd (false≢true (sym h))
 
 -- the levels one after another say what the policy says
 as_policy : (s : StateView) (p : Packet) → first_answer (to_device p ∷ map (says s p) levels) ≡ policy s p
+unfolding policy
 as_policy s p = elim (cases_Bool (is_made p)) [
   | inl made ↦ rw made refl
   | inr passed ↦
@@ -59,6 +60,7 @@ own-says k p own_table =
 
 module _ (s : StateView) (k : KernelState) (p : Packet) (good : IsGood s) (stands : Stands k (rule_table s) (route_list s)) where
   pub table_means_policy : walk k p ≡ policy s p
+  unfolding rule_table
   table_means_policy =
       stands_walks rule_kind (rule_gives k.tables p) verdict.Unreachable (rules_of k (family_of p.dest)) (own_rule ∷ rule_table s)
       (with_own-rises s) (with_own-givers s k.tables p good) (stands.in_family (family_of p.dest))

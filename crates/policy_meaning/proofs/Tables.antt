@@ -1,11 +1,11 @@
 -- The tables of a good state: an interface's table has the routes of that interface, and the local network's has none.
-use Rattle.std.proofs.Common.{◌≡◌, ◌∙◌, ◌==◌, ◌∷◌, [], ◌++◌, ◌+◌, ℕ, zero, suc, List, Bool, true, false, filter, map, slice_get, Some, refl, sym, ap, ap₂, inl, inr, arith}
+use Rattle.std.proofs.Common.{◌≡◌, ◌∙◌, ◌==◌, ◌∷◌, [], ◌++◌, ◌+◌, ℕ, zero, suc, List, Bool, true, false, map, slice_get, Some, refl, sym, ap, ap₂, inl, inr, arith}
 use Rattle.std.specs.Prelude.{flat_map}
 use Rattle.std.specs.List.{list_any, AllByRecursion}
 use Rattle.std.proofs.lemmas.Bool.{cases_Bool, false≢true, eqb-true}
 use Rattle.std.proofs.lemmas.Bool.Decides.{nat_tests}
-use Rattle.std.proofs.lemmas.List.{map-append, append-nil}
-use Rattle.std.proofs.lemmas.List.Elements.{filter-append}
+use Rattle.std.proofs.lemmas.List.{append-nil}
+use Rattle.fib_table.proofs.Tables.{routes_in-append}
 use Rattle.fib_table.specs.Table.{routes_in}
 use Rattle.networks.specs.Lists.{are_distinct}
 use Rattle.networks.specs.Network.{has_link, routes_by, local_network}
@@ -16,11 +16,6 @@ use Rattle.policy_state.specs.View.{StateView, IsGood, IsPhysical, LeadsOut}
 use Rattle.policy_state.specs.Table.{link_table, local_table, routes_of_net, route_list}
 use Rattle.policy_meaning.proofs.Given.{HasAtMostOne}
 use Rattle.policy_meaning.proofs.Single.{one_linked}
-
-routes_in-append : (n : ℕ) (xs ys : List (ℕ × Route)) → routes_in n (xs ++ ys) ≡ routes_in n xs ++ routes_in n ys
-routes_in-append n xs ys =
-    ap (map (λ (r : ℕ × Route). r.1)) (filter-append (λ (r : ℕ × Route). r.0 == n) xs ys)
-    ∙ map-append (λ (r : ℕ × Route). r.1) (filter (λ (r : ℕ × Route). r.0 == n) xs) (filter (λ (r : ℕ × Route). r.0 == n) ys)
 
 -- Routes whose tables have numbers by their links: those in a table are those by one link.
 by_link : (table : ℕ → ℕ) (m link : ℕ) → ((l : ℕ) → (table l == m) ≡ (l == link)) → (routes : List LinkRoute)

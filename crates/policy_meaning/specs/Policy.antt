@@ -17,7 +17,7 @@ use Rattle.prefixes.specs.Best.{answer}
 use Rattle.prefixes.specs.declared.addr.Addr.{Addr}
 use Rattle.prefixes.specs.declared.addr.Addr.TheVariants as addr
 use Rattle.prefixes.specs.declared.route.Route.{Route}
-use Rattle.rule_match.specs.Packet.{is_made}
+use Rattle.rule_match.specs.Packet.{is_made, lo}
 use Rattle.rule_match.specs.Verdict.{verdict_of}
 use Rattle.rule_match.specs.declared.packet.Packet.{Packet}
 use Rattle.rule_match.specs.declared.verdict.Verdict.{Verdict}
@@ -86,7 +86,7 @@ is_loopback (addr.V6 value) = value == 1
 -- the packet is bound to no link, or to `lo`
 abbrev pub may_use_lo : Option ℕ → Bool
 may_use_lo None = true
-may_use_lo (Some link) = link == 1
+may_use_lo (Some link) = link == lo
 
 -- the packet is for the device itself
 abbrev pub is_to_device : Packet → Bool
@@ -129,5 +129,5 @@ abbrev pub policy_passed : StateView → Packet → Verdict
 policy_passed s p = first_answer ((if is_loopback p.dest then Some verdict.Local else None) ∷ asks_local s p ∷ [])
 
 -- where the packet is to go
-abbrev pub policy : StateView → Packet → Verdict
+unfoldable pub policy : StateView → Packet → Verdict
 policy s p = if is_made p then policy_made s p else policy_passed s p

@@ -22,16 +22,10 @@ ghost use Rattle.policy_meaning.specs.Policy.{
 
 use crate::asking::{ask, ask_link};
 use fwmark::{Mark, Permission, suffices};
-use networks::{Kind, Network};
+use networks::{Kind, LOCAL_ID, Network};
 use policy_state::State;
 use prefixes::Addr;
-use rule_match::{Packet, Verdict};
-
-/// The link `lo`.
-const LOOPBACK: u16 = 1;
-
-/// The id of the local network.
-const LOCAL_ID: u16 = 99;
+use rule_match::{LOOPBACK, Packet, Verdict};
 
 fn may_choose(packet: &Packet, network: &Network) -> bool
     ensures { result ≡ may_choose packet.now network.now }
@@ -197,6 +191,7 @@ fn decide_made(state: &State, packet: &Packet) -> Verdict
 }
 
 /// Where the packet is to go. Takes no memory.
+#[tactic(auto, unfolding(crate::specs::Policy::policy))]
 pub fn decide(state: &State, packet: &Packet) -> Verdict
     ensures { result ≡ policy state.now packet.now }
 {

@@ -17,6 +17,7 @@ pub fn table_means_policy()
 {}
 
 /// Lockdown's promise: what a user other than root sends unprotected while it is locked down leaves by no link.
+#[tactic(auto, unfolding(crate::specs::Policy::policy))]
 pub fn barred_stays_in()
     ensures { (s : StateView) (p : Packet) → IsBarred s p → p.uid.number ≢ 0 → StaysIn (policy s p) }
 {}

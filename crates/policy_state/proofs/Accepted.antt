@@ -1,15 +1,16 @@
 -- What an accepted command shows: none of the reasons against it holds.
-use Rattle.std.proofs.Common.{◌≡◌, ℕ, Bool, true, false, List, [], ◌∷◌, Option, Some, None, is_none, length, nat_le, refl, sym, ap, inl, inr}
+use Rattle.std.proofs.Common.{◌≡◌, ℕ, Bool, true, false, List, [], ◌∷◌, Option, Some, None, length, nat_le, refl, sym, ap, inl, inr, not, ◌∙◌}
 use Rattle.std.specs.List.{AllByRecursion}
-use Rattle.std.proofs.lemmas.Bool.{cases_Bool, both_ways}
+use Rattle.std.proofs.lemmas.Bool.{cases_Bool, both_ways, not-false}
 use Rattle.std.proofs.lemmas.Option.{none-some}
+use Rattle.list_lemmas.proofs.Options.{some_there}
 use Rattle.networks.specs.Lists.{find_id}
 use Rattle.networks.specs.Network.{has_link, routes_by}
 use Rattle.networks.specs.declared.network.Network.{Network}
 use Rattle.networks.specs.declared.network.Kind.TheVariants as kind
 use Rattle.prefixes.specs.declared.route.Route.{Route}
 use Rattle.policy_state.specs.View.{StateView, link_named, most_interfaces}
-use Rattle.policy_state.specs.Step.{Reason, first_that_holds, of_link, changed_by_link, is_in, is_full, routes_at, is_physical}
+use Rattle.policy_state.specs.Step.{Reason, first_that_holds, of_link, changed_by_link, is_in, is_full, routes_at, is_physical, is_net_unknown}
 
 pub none_holds : (rs : List Reason) → first_that_holds rs ≡ None → AllByRecursion (λ r. r.holds ≡ false) rs
 none_holds [] none = tt
@@ -17,11 +18,6 @@ none_holds (r ∷ rs) none = elim (cases_Bool r.holds) as (λ _. AllByRecursion 
   | inl here ↦ absurd (none-some r.code (sym (rw here at none)))
   | inr other ↦ (other, none_holds rs (rw other at none))
 ]
-
--- what an option that isn't none holds
-pub some_there : {X : Type 0} (o : Option X) → is_none o ≡ false → (x : X) × (o ≡ Some x)
-some_there None there = absurd (both_ways true there refl)
-some_there (Some x) there = (x, refl)
 
 -- the link of a name, of which a test holds
 pub link_there : (s : StateView) (name : List ℕ) (test : ℕ → Bool) → of_link s name test ≡ true → (link : ℕ) × ((link_named s name ≡ Some link) × (test link ≡ true))
@@ -55,3 +51,18 @@ is_physical-at s net n found =
       | Some m ↦ elim m.kind as (λ _. Bool) [ kind.Physical permission ↦ true | kind.Virtual secure ranges ↦ false | kind.Local ↦ false ]
       | None ↦ false
     ]) found
+
+-- what the reasons about a route's network and link leave
+pub record Routed (s : StateView) (net : ℕ) (name : List ℕ) : Type 0 where
+  pub n : Network
+  pub link : ℕ
+  pub found : find_id net s.networks ≡ Some n
+  pub named : link_named s name ≡ Some link
+  pub has : has_link n link ≡ true
+
+pub routed : (s : StateView) (net : ℕ) (name : List ℕ) → is_net_unknown s net ≡ false → not (of_link s name (is_in s net)) ≡ false → Routed s net name
+routed s net name known linked =
+    let there = some_there (find_id net s.networks) known in
+    let at = link_there s name (is_in s net) (not-false _ linked) in
+    let found : find_id net s.networks ≡ Some there.0 = there.1 in
+    record { n = there.0; link = at.0; found = found; named = at.1.0; has = sym (is_in-at s net there.0 found at.0) ∙ at.1.1 }

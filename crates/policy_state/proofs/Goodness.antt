@@ -3,11 +3,16 @@ use Rattle.std.proofs.Common.{◌≡◌, ℕ, ◌≤◌, ◌<◌, ◌==◌, ◌&
 use Rattle.std.specs.List.{list_any, AllByRecursion}
 use Rattle.std.specs.Str.{bytes_eq}
 use Rattle.std.proofs.lemmas.Bool.{cases_Bool, or_left, or_parts, both_ways, ltb-false, leb-false, not-false, false_from_ne_true}
-use Rattle.std.proofs.lemmas.Bool.Decides.{nat_tests}
 use Rattle.std.proofs.lemmas.List.{append-nil, append_assoc, map-append, length-append}
 use Rattle.std.proofs.lemmas.List.Filters.{length-filter_both}
 use Rattle.std.proofs.lemmas.List.Folds.{list_any-append}
 use Rattle.std.proofs.lemmas.Grind.{flat_map-append}
+use Rattle.policy_state.specs.declared.link.Link.{Link}
+use Rattle.list_lemmas.proofs.Numbers.{all-apart, eqb-turned}
+use Rattle.list_lemmas.proofs.Options.{some_there}
+use Rattle.list_lemmas.proofs.Anys.{any-map}
+use Rattle.networks.proofs.Distinct.{are_distinct-push, are_distinct-insert}
+use Rattle.list_lemmas.proofs.Alls.{all-push, all-weaker, all-insert}
 use Rattle.fib_table.specs.Table.{has_key}
 use Rattle.fwmark.specs.declared.permission.Permission.{Permission}
 use Rattle.networks.specs.Lists.{find_id, find_link, are_distinct}
@@ -15,18 +20,17 @@ use Rattle.networks.specs.Network.{has_link, routes_by, local_id, local_network}
 use Rattle.networks.specs.declared.network.Network.{Network}
 use Rattle.networks.specs.declared.network.Kind.TheVariants as kind
 use Rattle.prefixes.specs.declared.prefix.Prefix.{Prefix}
-use Rattle.uid_ranges.specs.Ranges.{has}
+use Rattle.uid_ranges.specs.Ranges.{has, without}
 use Rattle.uid_ranges.specs.declared.range.UidRange.{UidRange}
 use Rattle.uid_ranges.proofs.Disjoint.{AreDisjoint-append, AreDisjoint-filter}
 use Rattle.policy_state.specs.View.{StateView, IsGood, IsPhysical, AreNetworks, start, link_named, most_interfaces, most_routes, most_networks, most_links}
-use Rattle.policy_state.specs.Step.{refusal, changed, reasons, FitsTypes, with_net, with_link, with_route, without_route, with_permission, route_of, key_of, is_in, is_in_any, is_full, of_link, routes_at, is_physical, is_net_unknown}
-use Rattle.policy_state.specs.declared.command.Command.{Command}
-use Rattle.policy_state.specs.declared.command.Command.TheVariants as command
-use Rattle.policy_state.specs.declared.command.Way.{Way}
-use Rattle.policy_state.proofs.Lists.{all-push, all-weaker, all-insert, are_distinct-push, are_distinct-insert, none-map}
+use Rattle.policy_state.specs.Step.{refusal, changed, reasons, FitsTypes, with_net, with_link, with_route, without_route, with_permission, route_of, key_of, is_in, is_in_any, is_full, routes_at, is_physical, changed_by_link}
+use Rattle.commands.specs.declared.command.Command.{Command}
+use Rattle.commands.specs.declared.command.Command.TheVariants as command
+use Rattle.commands.specs.declared.command.Way.{Way}
 use Rattle.policy_state.proofs.LinkLists.{links-add, links-remove, index_kept, may_be_interface}
 use Rattle.policy_state.proofs.Nets.{Standing, standing, all_links, with_change, links_around, linked_nowhere, not_local-linked, is_physical_there, good_networks-changed, good_networks-same_links}
-use Rattle.policy_state.proofs.Accepted.{none_holds, some_there, link_there, of_link-at, changed_by_link-at, is_in-at, is_full-at, routes_at-at, is_physical-at}
+use Rattle.policy_state.proofs.Accepted.{none_holds, of_link-at, changed_by_link-at, is_in-at, is_full-at, routes_at-at, is_physical-at, Routed, routed}
 use Rattle.policy_state.proofs.RouteLists.{physical-with_route, physical-without_route}
 
 pub good-start : IsGood start
@@ -41,33 +45,32 @@ good-start = record {
 good-networks : (s t : StateView) → IsGood s → AreNetworks (record s { networks = t.networks }) → IsGood (record s { networks = t.networks })
 good-networks s t good nets = record { links = good.links; networks = nets; lockdown_disjoint = good.lockdown_disjoint; lockdown_few = good.lockdown_few }
 
+-- the same networks, among other links of which their interfaces are some, or with other ranges locked down
+networks-among : (s : StateView) (links : List Link) (lockdown : List UidRange) → AreNetworks s
+    → AllByRecursion (λ i. (2 ≤ i) × (list_any (λ l. l.index == i) links ≡ true)) (all_links s.networks)
+    → AreNetworks (record { links = links; networks = s.networks; lockdown = lockdown })
+networks-among s links lockdown nets among = record {
+  others = nets.others;
+  local_first = nets.local_first;
+  physical = nets.physical;
+  keyed = nets.keyed;
+  interfaces_distinct = nets.interfaces_distinct;
+  interfaces_are_links = among;
+  few = nets.few;
+}
+
 good-link_add : (s : StateView) (name : List ℕ) (index : ℕ) → IsGood s → index < 65536 → refusal s (command.LinkAdd name index) ≡ None → IsGood (changed s (command.LinkAdd name index))
 good-link_add s name index good most accepted =
     let facts = none_holds (reasons s (command.LinkAdd name index)) accepted in
-    let nets : AreNetworks s = good.networks in
+    let more : List Link = s.links ++ record { name = name; index = index } ∷ [] in
     record {
       links = links-add s.links name index good.links (ltb-false index 2 facts.0) most facts.1.0 (leb-false most_links (length s.links) facts.1.1.0);
-      networks = record {
-        others = nets.others;
-        local_first = nets.local_first;
-        physical = nets.physical;
-        keyed = nets.keyed;
-        interfaces_distinct = nets.interfaces_distinct;
-        interfaces_are_links = all-weaker (λ i. (2 ≤ i) × (list_any (λ l. l.index == i) s.links ≡ true))
-            (λ i. (2 ≤ i) × (list_any (λ l. l.index == i) (s.links ++ record { name = name; index = index } ∷ []) ≡ true))
-            (λ i h. (h.0, list_any-append (λ l. l.index == i) s.links (record { name = name; index = index } ∷ []) ∙ or_left _ _ h.1)) (all_links s.networks) nets.interfaces_are_links;
-        few = nets.few;
-      };
+      networks = networks-among s more s.lockdown good.networks
+          (all-weaker (λ i. (2 ≤ i) × (list_any (λ l. l.index == i) s.links ≡ true)) (λ i. (2 ≤ i) × (list_any (λ l. l.index == i) more ≡ true))
+          (λ i h. (h.0, list_any-append (λ l. l.index == i) s.links (record { name = name; index = index } ∷ []) ∙ or_left _ _ h.1)) (all_links s.networks) good.networks.interfaces_are_links);
       lockdown_disjoint = good.lockdown_disjoint;
       lockdown_few = good.lockdown_few;
     }
-
--- what holds of each number of a list in which `gone` doesn't stand
-all-apart : (P : ℕ → Type 0) (gone : ℕ) (is : List ℕ) → list_any (λ i. i == gone) is ≡ false → AllByRecursion P is → AllByRecursion (λ i. P i × ((i == gone) ≡ false)) is
-all-apart P gone [] absent each = tt
-all-apart P gone (i ∷ is) absent each =
-    let parts = or_parts (i == gone) (list_any (λ j. j == gone) is) absent in
-    ((each.0, parts.0), all-apart P gone is parts.1 each.1)
 
 no_network : (s : StateView) (link : ℕ) → is_in_any s link ≡ false → find_link link s.networks ≡ None
 no_network s link h = by (find_link link s.networks) refl h
@@ -85,21 +88,13 @@ good-link_remove s name good accepted =
     let named : link_named s name ≡ Some gone = found.1 in
     let idle : is_in_any s gone ≡ false = sym (of_link-at s name (is_in_any s) gone named) ∙ facts.1.1.0 in
     let nowhere : list_any (λ i. i == gone) (all_links s.networks) ≡ false = linked_nowhere gone s.networks (no_network s gone idle) in
-    let left = filter (λ l. not (bytes_eq l.name name)) s.links in
+    let left : List Link = filter (λ l. not (bytes_eq l.name name)) s.links in
     record {
       links = links-remove s.links name good.links facts.1.0;
-      networks = record {
-        others = nets.others;
-        local_first = nets.local_first;
-        physical = nets.physical;
-        keyed = nets.keyed;
-        interfaces_distinct = nets.interfaces_distinct;
-        interfaces_are_links = all-weaker (λ i. ((2 ≤ i) × (list_any (λ l. l.index == i) s.links ≡ true)) × ((i == gone) ≡ false))
-            (λ i. (2 ≤ i) × (list_any (λ l. l.index == i) left ≡ true))
-            (λ i h. (h.0.0, index_kept name gone i s.links good.links.names_distinct named h.1 h.0.1)) (all_links s.networks)
-            (all-apart (λ i. (2 ≤ i) × (list_any (λ l. l.index == i) s.links ≡ true)) gone (all_links s.networks) nowhere nets.interfaces_are_links);
-        few = nets.few;
-      };
+      networks = networks-among s left s.lockdown nets
+          (all-weaker (λ i. ((2 ≤ i) × (list_any (λ l. l.index == i) s.links ≡ true)) × ((i == gone) ≡ false)) (λ i. (2 ≤ i) × (list_any (λ l. l.index == i) left ≡ true))
+          (λ i h. (h.0.0, index_kept name gone i s.links good.links.names_distinct named h.1 h.0.1)) (all_links s.networks)
+          (all-apart (λ i. (2 ≤ i) × (list_any (λ l. l.index == i) s.links ≡ true)) gone (all_links s.networks) nowhere nets.interfaces_are_links));
       lockdown_disjoint = good.lockdown_disjoint;
       lockdown_few = good.lockdown_few;
     }
@@ -113,9 +108,6 @@ unknown_id net (n ∷ ns) unknown = elim (cases_Bool (net == n.id)) as (λ _. ((
       let unlike : (n.id == net) ≡ false = false_from_ne_true (n.id == net) (λ same. both_ways (net == n.id) other (rw (← eqb-turned n.id net) same)) in
       rw unlike (unknown_id net ns (rw other at unknown))
 ]
-  where
-    eqb-turned : (a b : ℕ) → (a == b) ≡ (b == a)
-    eqb-turned a b = grind (arith, nat_tests)
 
 good-create : (s : StateView) (net : ℕ) (permission : Permission) → IsGood s → net < 65536 → refusal s (command.CreatePhysical net permission) ≡ None
     → IsGood (changed s (command.CreatePhysical net permission))
@@ -139,7 +131,7 @@ good-create s net permission good most accepted =
         few_routes = λ link. omega arith;
       });
       keyed = subst (λ is. are_distinct is ≡ true) (sym (map-append (λ n. n.id) s.networks (more ∷ [])))
-          (are_distinct-push _ net nets.keyed (none-map (λ n. n.id) (λ m. m == net) s.networks ∙ absent));
+          (are_distinct-push _ net nets.keyed (any-map (λ n. n.id) (λ m. m == net) s.networks ∙ absent));
       interfaces_distinct = subst (λ l. are_distinct l ≡ true) (sym links) nets.interfaces_distinct;
       interfaces_are_links = subst (AllByRecursion (λ i. (2 ≤ i) × (list_any (λ l. l.index == i) s.links ≡ true))) (sym links) nets.interfaces_are_links;
       few = omega (arith, length-append s.networks (more ∷ []), leb-false most_networks (length s.networks) facts.1.1.0);
@@ -205,54 +197,34 @@ good-interface_add s net name good accepted =
     let room : is_full s net ≡ false = rw (in_it, absent) at full in
     leb-false most_interfaces (length n.interfaces) (sym (is_full-at s net n found) ∙ room)))
 
--- what the reasons about a route's network and link leave
-record Routed (s : StateView) (net : ℕ) (name : List ℕ) : Type 0 where
-  n : Network
-  link : ℕ
-  found : find_id net s.networks ≡ Some n
-  named : link_named s name ≡ Some link
-  has : has_link n link ≡ true
-
-routed : (s : StateView) (net : ℕ) (name : List ℕ) → is_net_unknown s net ≡ false → not (of_link s name (is_in s net)) ≡ false → Routed s net name
-routed s net name known linked =
-    let there = some_there (find_id net s.networks) known in
-    let at = link_there s name (is_in s net) (not-false _ linked) in
-    let found : find_id net s.networks ≡ Some there.0 = there.1 in
-    record { n = there.0; link = at.0; found = found; named = at.1.0; has = sym (is_in-at s net there.0 found at.0) ∙ at.1.1 }
+-- the network of an interface changed into one that may stand in its place, with its id and its interfaces
+good-routed : (s : StateView) (net : ℕ) (name : List ℕ) → IsGood s → (at : Routed s net name) → (change : ℕ → Network → Network)
+    → (change at.link at.n).id ≡ at.n.id → (change at.link at.n).interfaces ≡ at.n.interfaces → (IsPhysical at.n → IsPhysical (change at.link at.n))
+    → IsGood (changed_by_link s name (λ i. with_net net (change i)))
+good-routed s net name good at change id interfaces physical =
+    let nets : AreNetworks s = good.networks in
+    let other : (net == local_id) ≡ false = not_local-linked s nets net at.n at.found at.link at.has in
+    subst IsGood (sym (changed_by_link-at s name (λ i. with_net net (change i)) at.link at.named)) (good-networks s (with_net net (change at.link) s) good (
+    good_networks-same_links s nets net at.n at.found other (change at.link) id interfaces (physical (is_physical_there s nets net at.n at.found other))))
 
 good-route_add : (s : StateView) (net : ℕ) (name : List ℕ) (prefix : Prefix) (w : Way) → IsGood s → refusal s (command.RouteAdd net name prefix w) ≡ None
     → IsGood (changed s (command.RouteAdd net name prefix w))
 good-route_add s net name prefix w good accepted =
     let facts = none_holds (reasons s (command.RouteAdd net name prefix w)) accepted in
-    let nets : AreNetworks s = good.networks in
     let at : Routed s net name = routed s net name facts.0 facts.1.1.0 in
-    let n : Network = at.n in
-    let link : ℕ = at.link in
-    let found : find_id net s.networks ≡ Some n = at.found in
-    let named : link_named s name ≡ Some link = at.named in
-    let other : (net == local_id) ≡ false = not_local-linked s nets net n found link at.has in
-    let absent : has_key (routes_at s net link) (route_of link prefix w) ≡ false = sym (of_link-at s name (λ i. has_key (routes_at s net i) (route_of i prefix w)) link named) ∙ facts.1.1.1.1.0 in
-    let full : nat_le most_routes (length (routes_at s net link)) ≡ false = sym (of_link-at s name (λ i. nat_le most_routes (length (routes_at s net i))) link named) ∙ facts.1.1.1.1.1.0 in
-    let routes : routes_at s net link ≡ routes_by link n.routes = routes_at-at s net n found link in
-    subst IsGood (sym (changed_by_link-at s name (λ i. with_net net (with_route i (route_of i prefix w))) link named)) (good-networks s (with_net net (with_route link (route_of link prefix w)) s) good (
-    good_networks-same_links s nets net n found other (with_route link (route_of link prefix w)) refl refl
-    (physical-with_route n link prefix w (is_physical_there s nets net n found other) at.has facts.1.1.1.0 (ap (λ rs. has_key rs (route_of link prefix w)) (sym routes) ∙ absent)
-    (leb-false most_routes (length (routes_by link n.routes)) (ap (λ rs. nat_le most_routes (length rs)) (sym routes) ∙ full)))))
+    let absent : has_key (routes_at s net at.link) (route_of at.link prefix w) ≡ false = sym (of_link-at s name (λ i. has_key (routes_at s net i) (route_of i prefix w)) at.link at.named) ∙ facts.1.1.1.1.0 in
+    let full : nat_le most_routes (length (routes_at s net at.link)) ≡ false = sym (of_link-at s name (λ i. nat_le most_routes (length (routes_at s net i))) at.link at.named) ∙ facts.1.1.1.1.1.0 in
+    let routes : routes_at s net at.link ≡ routes_by at.link at.n.routes = routes_at-at s net at.n at.found at.link in
+    good-routed s net name good at (λ i. with_route i (route_of i prefix w)) refl refl (λ physical.
+    physical-with_route at.n at.link prefix w physical at.has facts.1.1.1.0 (ap (λ rs. has_key rs (route_of at.link prefix w)) (sym routes) ∙ absent)
+    (leb-false most_routes (length (routes_by at.link at.n.routes)) (ap (λ rs. nat_le most_routes (length rs)) (sym routes) ∙ full)))
 
 good-route_remove : (s : StateView) (net : ℕ) (name : List ℕ) (prefix : Prefix) (special : Bool) → IsGood s → refusal s (command.RouteRemove net name prefix special) ≡ None
     → IsGood (changed s (command.RouteRemove net name prefix special))
 good-route_remove s net name prefix special good accepted =
     let facts = none_holds (reasons s (command.RouteRemove net name prefix special)) accepted in
-    let nets : AreNetworks s = good.networks in
     let at : Routed s net name = routed s net name facts.0 facts.1.1.0 in
-    let n : Network = at.n in
-    let link : ℕ = at.link in
-    let found : find_id net s.networks ≡ Some n = at.found in
-    let named : link_named s name ≡ Some link = at.named in
-    let other : (net == local_id) ≡ false = not_local-linked s nets net n found link at.has in
-    subst IsGood (sym (changed_by_link-at s name (λ i. with_net net (without_route i (key_of i prefix special))) link named)) (good-networks s (with_net net (without_route link (key_of link prefix special)) s) good (
-    good_networks-same_links s nets net n found other (without_route link (key_of link prefix special)) refl refl
-    (physical-without_route n link (key_of link prefix special) (is_physical_there s nets net n found other))))
+    good-routed s net name good at (λ i. without_route i (key_of i prefix special)) refl refl (physical-without_route at.n at.link (key_of at.link prefix special))
 
 physical-with_permission : (n : Network) (permission : Permission) → IsPhysical n → IsPhysical (with_permission permission n)
 physical-with_permission n permission physical = record {
@@ -286,36 +258,18 @@ good-permission s net permission good accepted =
 good-lockdown_add : (s : StateView) (range : UidRange) → IsGood s → refusal s (command.LockdownAdd range) ≡ None → IsGood (changed s (command.LockdownAdd range))
 good-lockdown_add s range good accepted =
     let facts = none_holds (reasons s (command.LockdownAdd range)) accepted in
-    let nets : AreNetworks s = good.networks in
     record {
       links = good.links;
-      networks = record {
-        others = nets.others;
-        local_first = nets.local_first;
-        physical = nets.physical;
-        keyed = nets.keyed;
-        interfaces_distinct = nets.interfaces_distinct;
-        interfaces_are_links = nets.interfaces_are_links;
-        few = nets.few;
-      };
+      networks = networks-among s s.links (s.lockdown ++ range ∷ []) good.networks good.networks.interfaces_are_links;
       lockdown_disjoint = AreDisjoint-append s.lockdown (range ∷ []) good.lockdown_disjoint refl facts.0;
       lockdown_few = omega (arith, length-append s.lockdown (range ∷ []), leb-false 1000 (length s.lockdown) facts.1.0);
     }
 
 good-lockdown_remove : (s : StateView) (range : UidRange) → IsGood s → IsGood (changed s (command.LockdownRemove range))
 good-lockdown_remove s range good =
-    let nets : AreNetworks s = good.networks in
     record {
       links = good.links;
-      networks = record {
-        others = nets.others;
-        local_first = nets.local_first;
-        physical = nets.physical;
-        keyed = nets.keyed;
-        interfaces_distinct = nets.interfaces_distinct;
-        interfaces_are_links = nets.interfaces_are_links;
-        few = nets.few;
-      };
+      networks = networks-among s s.links (without s.lockdown (range ∷ [])) good.networks good.networks.interfaces_are_links;
       lockdown_disjoint = AreDisjoint-filter (λ other. not (has (range ∷ []) other)) s.lockdown good.lockdown_disjoint;
       lockdown_few = omega (arith, good.lockdown_few, length-filter_both (λ other. not (has (range ∷ []) other)) (λ other. not (not (has (range ∷ []) other))) (λ other. refl) s.lockdown);
     }

@@ -4,6 +4,8 @@ use Rattle.std.specs.Prelude.{◌&&◌, ◌⊎◌, flat_map, bit_and, if◌then�
 use Rattle.std.specs.List.{list_any}
 use Rattle.std.proofs.lemmas.Bool.{cases_Bool, cases_lt, false≢true, and_parts, eqb-true}
 use Rattle.std.proofs.lemmas.List.Folds.{list_any-append}
+use Rattle.list_lemmas.proofs.Places.{same_item}
+use Rattle.list_lemmas.proofs.Alls.{all-filter, all-at}
 use Rattle.fwmark.specs.Mark.{net_of}
 use Rattle.fwmark.specs.Selection.{Selection, is_stated, is_net, selects as mark_selects, mask_of, value_of}
 use Rattle.fwmark.specs.declared.permission.Permission.{Permission}
@@ -21,8 +23,7 @@ use Rattle.rule_match.specs.declared.rule.Rule.{Rule}
 use Rattle.rule_match.proofs.Sames.{same_rule-true, same_selectors-refl, same_selectors-from}
 use Rattle.policy_state.specs.View.{StateView, IsGood}
 use Rattle.policy_state.specs.Table.{PhysicalLink, physical_links, is_free, permission_word, Level, RootInterface, Lockdown, Explicit, BoundInterface, LocalNetwork, Implicit, Last, levels, priority_of, rules_at, rule_table, root_interface_rule, lockdown_rule, explicit_rule, explicit_local_rule, bound_rule, local_rule, implicit_rule, last_rule}
-use Rattle.policy_state.proofs.Lists.{all-filter}
-use Rattle.policy_state.proofs.PhysicalLinks.{all-at, same_item, IsLinkIn, all-in, link_in, one_link, one_permission}
+use Rattle.policy_state.proofs.PhysicalLinks.{IsLinkIn, all-in, link_in, one_link, one_permission}
 
 -- the rule stands in the list
 abbrev pub is_among : List Rule → Rule → Bool
@@ -276,6 +277,7 @@ at_level s (level ∷ rest) x h =
     ]
 
 pub table-level : (s : StateView) (x : Rule) → is_among (rule_table s) x ≡ true → AtLevel s x
+unfolding rule_table
 table-level s x h = at_level s levels x h
 
 -- two rules of a table that have equal priority and that one packet matches have equal selectors

@@ -7,3 +7,4 @@ pub mod Goodness
 pub mod Puts
 pub mod PhysicalLinks
 pub mod Levels
+pub mod TableLevels

@@ -7,10 +7,13 @@ use Rattle.std.proofs.lemmas.Bool.{cases_Bool, and_parts, or_from, or_parts, or_
 use Rattle.std.proofs.lemmas.List.{map-append, length-append}
 use Rattle.std.proofs.lemmas.Option.{none-some, same_Some}
 use Rattle.std.proofs.lemmas.Slice.Eq.{bytes_eq-Decides}
+use Rattle.policy_state.proofs.Lists.{are_names_distinct-push, are_names_distinct-filter, names_unlike-sym}
+use Rattle.networks.proofs.Distinct.{are_distinct-push, are_distinct-filter}
+use Rattle.list_lemmas.proofs.Alls.{all-push, all-filter}
+use Rattle.list_lemmas.proofs.Anys.{any-map, length-filter-le, filter-others}
 use Rattle.networks.specs.Lists.{are_distinct}
 use Rattle.policy_state.specs.View.{AreLinks, are_names_distinct, most_links}
 use Rattle.policy_state.specs.declared.link.Link.{Link}
-use Rattle.policy_state.proofs.Lists.{none-map, all-push, all-filter, are_distinct-push, are_distinct-filter, are_names_distinct-push, are_names_distinct-filter, names_unlike-sym, length-filter-le}
 
 none-either : (p q : Link → Bool) (ls : List Link) → list_any (λ l. p l || q l) ls ≡ false → (list_any p ls ≡ false) × (list_any q ls ≡ false)
 none-either p q [] none = (refl, refl)
@@ -31,7 +34,7 @@ links-add ls name index good least most free room =
       from_two = all-push (λ l. (2 ≤ l.index) × (l.index < 65536)) good.others more good.from_two (least, most);
       names_distinct = are_names_distinct-push ls more good.names_distinct two.0;
       indices_distinct = subst (λ is. are_distinct is ≡ true) (sym (map-append (λ l. l.index) ls (more ∷ [])))
-          (are_distinct-push (map (λ l. l.index) ls) index good.indices_distinct (none-map (λ l. l.index) (λ m. m == index) ls ∙ two.1));
+          (are_distinct-push (map (λ l. l.index) ls) index good.indices_distinct (any-map (λ l. l.index) (λ m. m == index) ls ∙ two.1));
       few = omega (arith, length-append ls (more ∷ []), room);
     }
 
@@ -48,12 +51,6 @@ links-remove ls name good not_lo =
       few = omega (arith, length-filter-le stays ls, good.few);
     }
 
-all_stay : (name : List ℕ) (ls : List Link) → list_any (λ l. bytes_eq l.name name) ls ≡ false → filter (λ l. not (bytes_eq l.name name)) ls ≡ ls
-all_stay name [] none = refl
-all_stay name (l ∷ ls) none =
-    let parts = or_parts (bytes_eq l.name name) (list_any (λ m. bytes_eq m.name name) ls) none in
-    rw parts.0 (ap (λ rest. l ∷ rest) (all_stay name ls parts.1))
-
 -- an index that a link has stays that of a link where another one goes
 pub index_kept : (name : List ℕ) (gone i : ℕ) (ls : List Link) → are_names_distinct ls ≡ true → option_map (λ l. l.index) (find (λ l. bytes_eq l.name name) ls) ≡ Some gone
     → (i == gone) ≡ false → list_any (λ l. l.index == i) ls ≡ true → list_any (λ l. l.index == i) (filter (λ l. not (bytes_eq l.name name)) ls) ≡ true
@@ -67,7 +64,7 @@ index_kept name gone i (l ∷ ls) distinct named other there =
           let unlike : (l.index == i) ≡ false = false_from_ne_true (l.index == i) (λ same. both_ways (i == gone) other (eq-eqb i gone (sym (eqb-true l.index i same) ∙ index))) in
           let rest : list_any (λ m. m.index == i) ls ≡ true = rw unlike at there in
           let same_name : l.name ≡ name = (bytes_eq-Decides l.name name).0 here in
-          let stay : filter (λ m. not (bytes_eq m.name name)) ls ≡ ls = all_stay name ls (subst (λ n. list_any (λ m. bytes_eq m.name n) ls ≡ false) same_name (not-true _ parts.0)) in
+          let stay : filter (λ m. not (bytes_eq m.name name)) ls ≡ ls = filter-others (λ m. bytes_eq m.name name) ls (subst (λ n. list_any (λ m. bytes_eq m.name n) ls ≡ false) same_name (not-true _ parts.0)) in
           rw here (subst (λ k. list_any (λ m. m.index == i) k ≡ true) (sym stay) rest)
       | inr unnamed ↦
           rw unnamed (elim (cases_Bool (l.index == i)) as (λ _. ((l.index == i) || list_any (λ m. m.index == i) (filter (λ m. not (bytes_eq m.name name)) ls)) ≡ true) [

@@ -6,12 +6,13 @@ use Rattle.std.proofs.lemmas.List.{map-append, length-map}
 use Rattle.std.proofs.lemmas.List.Folds.{list_any-append}
 use Rattle.std.proofs.lemmas.Grind.{flat_map-append}
 use Rattle.std.proofs.lemmas.Option.{none-some, same_Some}
+use Rattle.list_lemmas.proofs.Alls.{all-middle, all-replaced}
+use Rattle.list_lemmas.proofs.Numbers.{unlike-sym}
 use Rattle.networks.specs.Lists.{find_id, find_link, are_distinct, AreKeyed}
 use Rattle.networks.specs.Network.{has_link, local_id, local_network}
 use Rattle.networks.specs.declared.network.Network.{Network}
 use Rattle.policy_state.specs.View.{StateView, AreNetworks, IsPhysical}
 use Rattle.policy_state.specs.Step.{with_net}
-use Rattle.policy_state.proofs.Lists.{unlike-sym, all-at, all-replaced}
 
 -- the interfaces of some networks, in order
 abbrev pub all_links : List Network → List ℕ
@@ -93,7 +94,7 @@ module _ (s : StateView) (nets : AreNetworks s) (net : ℕ) (n : Network) (found
     others_stand = standing net nets.others n (and_parts _ _ (subst AreKeyed nets.local_first nets.keyed)).1 among_others
 
     pub is_physical_there : IsPhysical n
-    is_physical_there = all-at IsPhysical others_stand.before others_stand.behind n (subst (AllByRecursion IsPhysical) others_stand.is nets.physical)
+    is_physical_there = all-middle IsPhysical others_stand.before others_stand.behind n (subst (AllByRecursion IsPhysical) others_stand.is nets.physical)
 
     -- the network changed into one that may stand in its place
     pub good_networks-changed : (change : Network → Network) → (change n).id ≡ n.id → IsPhysical (change n)

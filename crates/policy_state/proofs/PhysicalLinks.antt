@@ -1,68 +1,21 @@
 -- The interfaces of a good state's physical networks: each is in one network, and each network has an id of its own.
-use Rattle.std.proofs.Common.{◌≡◌, ◌==◌, ◌∷◌, [], ◌++◌, ℕ, zero, suc, List, true, not, Some, refl, sym, ◌∙◌, ap, ap₂, subst, map, slice_get, inl, inr}
+use Rattle.std.proofs.Common.{◌≡◌, ◌∷◌, [], ◌++◌, ℕ, zero, suc, List, true, Some, refl, sym, ◌∙◌, ap, ap₂, subst, map, slice_get, inl, inr}
 use Rattle.std.specs.Prelude.{flat_map, ◌⊎◌}
-use Rattle.std.specs.List.{list_any, AllByRecursion}
+use Rattle.std.specs.List.{AllByRecursion}
 use Rattle.std.specs.Option.{option_map}
-use Rattle.std.proofs.lemmas.Bool.{cases_Bool, false≢true, and_parts}
 use Rattle.std.proofs.lemmas.List.{map-append}
 use Rattle.std.proofs.lemmas.Option.{slice_get-map}
+use Rattle.networks.proofs.Distinct.{one_number}
+use Rattle.list_lemmas.proofs.Numbers.{is_there}
+use Rattle.list_lemmas.proofs.Places.{same_item}
+use Rattle.list_lemmas.proofs.Alls.{all-at, all-from, all-flat, all-mapped}
 use Rattle.fwmark.specs.declared.permission.Permission.{Permission}
 use Rattle.networks.specs.Lists.{are_distinct}
 use Rattle.networks.specs.Network.{has_link, local_network}
 use Rattle.networks.specs.declared.network.Network.{Network}
 use Rattle.networks.specs.declared.network.Kind.TheVariants as kind
-use Rattle.prefixes.proofs.Sames.{eqb-refl}
 use Rattle.policy_state.specs.View.{StateView, IsGood, IsPhysical}
 use Rattle.policy_state.specs.Table.{PhysicalLink, physical_links_of, physical_links}
-
--- what holds of each item of a list holds of the one at a place, and the other way round
-module _ {X : Type 0} (P : X → Type 0) where
-  pub all-at : (xs : List X) (place : ℕ) (x : X) → AllByRecursion P xs → slice_get xs place ≡ Some x → P x
-  all-at [] place x h at = absurd cc
-  all-at (y ∷ ys) zero x h at = let is : y ≡ x = cc in subst P is h.0
-  all-at (y ∷ ys) (suc place) x h at = all-at ys place x h.1 at
-
-  pub all-from : (xs : List X) → ((place : ℕ) (x : X) → slice_get xs place ≡ Some x → P x) → AllByRecursion P xs
-  all-from [] h = tt
-  all-from (x ∷ xs) h = (h 0 x refl, all-from xs (λ place y at. h (suc place) y at))
-
-  all-append : (xs ys : List X) → AllByRecursion P xs → AllByRecursion P ys → AllByRecursion P (xs ++ ys)
-  all-append [] ys h k = k
-  all-append (x ∷ xs) ys h k = (h.0, all-append xs ys h.1 k)
-
-  pub all-flat : {N : Type 0} (f : N → List X) (ns : List N) → AllByRecursion (λ n. AllByRecursion P (f n)) ns → AllByRecursion P (flat_map f ns)
-  all-flat f [] h = tt
-  all-flat f (n ∷ ns) h = all-append (f n) (flat_map f ns) h.0 (all-flat f ns h.1)
-
-pub all-mapped : {X Y : Type 0} (P : Y → Type 0) (f : X → Y) (xs : List X) → AllByRecursion (λ x. P (f x)) xs → AllByRecursion P (map f xs)
-all-mapped P f [] h = tt
-all-mapped P f (x ∷ xs) h = (h.0, all-mapped P f xs h.1)
-
--- one item stands at a place
-pub same_item : {X : Type 0} (xs : List X) (i j : ℕ) (x y : X) → slice_get xs i ≡ Some x → slice_get xs j ≡ Some y → i ≡ j → x ≡ y
-same_item xs i j x y at_i at_j place =
-    let both : Some x ≡ Some y = sym at_i ∙ (ap (slice_get xs) place ∙ at_j) in
-    cc
-
--- the number at a place stands in the list
-pub is_there : (ns : List ℕ) (place n : ℕ) → slice_get ns place ≡ Some n → list_any (λ m. m == n) ns ≡ true
-is_there [] place n at = cc
-is_there (m ∷ ms) zero n at = let is : m ≡ n = cc in rw (is, eqb-refl n) refl
-is_there (m ∷ ms) (suc place) n at = elim (cases_Bool (m == n)) [ inl t ↦ rw t refl | inr t ↦ rw t (is_there ms place n at) ]
-
-no_second : (m : ℕ) (ms : List ℕ) (j n : ℕ) → are_distinct (m ∷ ms) ≡ true → Some m ≡ Some n → slice_get ms j ≡ Some n → ⊥
-no_second m ms j n distinct first second =
-    let there : list_any (λ k. k == m) ms ≡ true = is_there ms j m (second ∙ sym first) in
-    false≢true (rw there at (and_parts (not (list_any (λ k. k == m) ms)) (are_distinct ms) distinct).0)
-
--- in a list of distinct numbers each stands at one place
-pub one_number : (ns : List ℕ) (i j n : ℕ) → are_distinct ns ≡ true → slice_get ns i ≡ Some n → slice_get ns j ≡ Some n → i ≡ j
-one_number [] i j n distinct at_i at_j = absurd cc
-one_number (m ∷ ms) zero zero n distinct at_i at_j = refl
-one_number (m ∷ ms) zero (suc j) n distinct at_i at_j = absurd (no_second m ms j n distinct at_i at_j)
-one_number (m ∷ ms) (suc i) zero n distinct at_i at_j = absurd (no_second m ms i n distinct at_j at_i)
-one_number (m ∷ ms) (suc i) (suc j) n distinct at_i at_j =
-    ap suc (one_number ms i j n (and_parts (not (list_any (λ k. k == m) ms)) (are_distinct ms) distinct).1 at_i at_j)
 
 -- each network of a good state is the local one or a physical one
 pub network_at : (s : StateView) (place : ℕ) (n : Network) → IsGood s → slice_get s.networks place ≡ Some n → (n ≡ local_network) ⊎ IsPhysical n

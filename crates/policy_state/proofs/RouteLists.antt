@@ -1,25 +1,24 @@
 -- A network with one route more or less is still one that may stand in a state.
 use Rattle.std.proofs.Common.{◌≡◌, ℕ, ◌≤◌, ◌<◌, ◌==◌, ◌&&◌, ◌||◌, Bool, true, false, cond, not, List, [], ◌∷◌, ◌++◌, map, filter, length, refl, sym, ap, subst, ◌∙◌, arith, inl, inr}
-use Rattle.std.specs.List.{list_any}
+use Rattle.std.specs.List.{list_any, AllByRecursion}
 use Rattle.std.proofs.lemmas.Bool.{cases_Bool, and_from, and_parts, or_from, or_parts, not-true, not-false, not_from_false, eqb-true}
 use Rattle.std.proofs.lemmas.List.{map-append, append-nil, length-append, length-map}
 use Rattle.std.proofs.lemmas.List.Elements.{filter-append}
+use Rattle.prefixes.proofs.Sames.{same_family-true}
+use Rattle.list_lemmas.proofs.Alls.{all-push, all-filter}
 use Rattle.fib_table.specs.Table.{has_key, are_keys_distinct}
 use Rattle.fib_table.proofs.Keys.{are_keys_distinct-push}
-use Rattle.networks.specs.Network.{has_link, routes_by}
+use Rattle.networks.specs.Network.{has_link, routes_by, is_keyed_by}
 use Rattle.networks.specs.declared.network.LinkRoute.{LinkRoute}
 use Rattle.networks.specs.declared.network.Network.{Network}
-use Rattle.prefixes.specs.Addr.{family_of, same_family}
-use Rattle.prefixes.specs.declared.addr.Family.{Family}
-use Rattle.prefixes.specs.declared.addr.Family.TheVariants as family
+use Rattle.prefixes.specs.Addr.{family_of}
 use Rattle.prefixes.specs.Route.{same_key}
 use Rattle.prefixes.specs.declared.prefix.Prefix.{Prefix}
 use Rattle.prefixes.specs.declared.route.Route.{Route}
 use Rattle.policy_state.specs.View.{IsPhysical, LeadsOut, most_routes}
 use Rattle.policy_state.specs.Step.{with_route, without_route, route_of, is_way_of_other_family}
-use Rattle.policy_state.specs.declared.command.Way.{Way}
-use Rattle.policy_state.specs.declared.command.Way.TheVariants as way
-use Rattle.policy_state.proofs.Lists.{all-push, all-filter}
+use Rattle.commands.specs.declared.command.Way.{Way}
+use Rattle.commands.specs.declared.command.Way.TheVariants as way
 
 routes_by-push : (l : ℕ) (rs : List LinkRoute) (r : LinkRoute) → routes_by l (rs ++ r ∷ []) ≡ routes_by l rs ++ cond (r.link == l) (r.route ∷ []) []
 routes_by-push l rs r =
@@ -67,57 +66,52 @@ length-routes_by q l (r ∷ rs) = by (r.link == l) (q r) refl (length-routes_by 
     by false true is rest = rw is rest
     by false false is rest = rest
 
-same_family-true : (one other : Family) → same_family one other ≡ true → one ≡ other
-same_family-true family.V4 family.V4 same = refl
-same_family-true family.V6 family.V6 same = refl
-same_family-true family.V4 family.V6 same = cc
-same_family-true family.V6 family.V4 same = cc
-
 leads_out : (link : ℕ) (prefix : Prefix) (w : Way) → is_way_of_other_family prefix w ≡ false → LeadsOut (record { link = link; route = route_of link prefix w })
 leads_out link prefix way.Direct same = refl
 leads_out link prefix (way.Via gateway) same = (refl, same_family-true (family_of gateway) (family_of prefix.base) (not-false _ same))
 leads_out link prefix way.Unreachable same = tt
 leads_out link prefix way.Throw same = tt
 
+-- a physical network with other routes
+physical-routed : (n : Network) (routes : List LinkRoute) → IsPhysical n → AllByRecursion (λ r. (has_link n r.link ≡ true) × LeadsOut r) routes
+    → ((link : ℕ) → are_keys_distinct (routes_by link routes) ≡ true) → ((link : ℕ) → length (routes_by link routes) ≤ most_routes) → IsPhysical (record n { routes = routes })
+physical-routed n routes physical belong distinct few = record {
+  permission = physical.permission;
+  kind_is = physical.kind_is;
+  from_100 = physical.from_100;
+  to_65535 = physical.to_65535;
+  few_interfaces = physical.few_interfaces;
+  routes_belong = belong;
+  keys_distinct = distinct;
+  few_routes = few;
+}
+
 pub physical-with_route : (n : Network) (link : ℕ) (prefix : Prefix) (w : Way) → IsPhysical n → has_link n link ≡ true → is_way_of_other_family prefix w ≡ false
     → has_key (routes_by link n.routes) (route_of link prefix w) ≡ false → length (routes_by link n.routes) < most_routes → IsPhysical (with_route link (route_of link prefix w) n)
 physical-with_route n link prefix w physical has way_ok absent room =
     let more : LinkRoute = record { link = link; route = route_of link prefix w } in
-    record {
-      permission = physical.permission;
-      kind_is = physical.kind_is;
-      from_100 = physical.from_100;
-      to_65535 = physical.to_65535;
-      few_interfaces = physical.few_interfaces;
-      routes_belong = all-push (λ r. (has_link n r.link ≡ true) × LeadsOut r) n.routes more physical.routes_belong (has, leads_out link prefix w way_ok);
-      keys_distinct = λ l. subst (λ rs. are_keys_distinct rs ≡ true) (sym (routes_by-push l n.routes more)) (
-          elim (cases_Bool (link == l)) as (λ _. are_keys_distinct (routes_by l n.routes ++ cond (link == l) (route_of link prefix w ∷ []) []) ≡ true) [
-            | inl same ↦ rw same (are_keys_distinct-push (routes_by l n.routes) (route_of link prefix w) (physical.keys_distinct l)
-                (subst (λ i. has_key (routes_by i n.routes) (route_of link prefix w) ≡ false) (eqb-true link l same) absent))
-            | inr other ↦ rw (other, append-nil) (physical.keys_distinct l)
-          ]);
-      few_routes = λ l. subst (λ rs. length rs ≤ most_routes) (sym (routes_by-push l n.routes more)) (
-          elim (cases_Bool (link == l)) as (λ _. length (routes_by l n.routes ++ cond (link == l) (route_of link prefix w ∷ []) []) ≤ most_routes) [
-            | inl same ↦
-                let here : length (routes_by l n.routes) < most_routes = subst (λ i. length (routes_by i n.routes) < most_routes) (eqb-true link l same) room in
-                rw same (omega (arith, length-append (routes_by l n.routes) (route_of link prefix w ∷ [])))
-            | inr other ↦ rw (other, append-nil) (physical.few_routes l)
-          ]);
-    }
+    physical-routed n (n.routes ++ more ∷ []) physical
+    (all-push (λ r. (has_link n r.link ≡ true) × LeadsOut r) n.routes more physical.routes_belong (has, leads_out link prefix w way_ok))
+    (λ l. subst (λ rs. are_keys_distinct rs ≡ true) (sym (routes_by-push l n.routes more)) (
+    elim (cases_Bool (link == l)) as (λ _. are_keys_distinct (routes_by l n.routes ++ cond (link == l) (route_of link prefix w ∷ []) []) ≡ true) [
+      | inl same ↦ rw same (are_keys_distinct-push (routes_by l n.routes) (route_of link prefix w) (physical.keys_distinct l)
+          (subst (λ i. has_key (routes_by i n.routes) (route_of link prefix w) ≡ false) (eqb-true link l same) absent))
+      | inr other ↦ rw (other, append-nil) (physical.keys_distinct l)
+    ]))
+    (λ l. subst (λ rs. length rs ≤ most_routes) (sym (routes_by-push l n.routes more)) (
+    elim (cases_Bool (link == l)) as (λ _. length (routes_by l n.routes ++ cond (link == l) (route_of link prefix w ∷ []) []) ≤ most_routes) [
+      | inl same ↦
+          let here : length (routes_by l n.routes) < most_routes = subst (λ i. length (routes_by i n.routes) < most_routes) (eqb-true link l same) room in
+          rw same (omega (arith, length-append (routes_by l n.routes) (route_of link prefix w ∷ [])))
+      | inr other ↦ rw (other, append-nil) (physical.few_routes l)
+    ]))
 
 pub physical-without_route : (n : Network) (link : ℕ) (key : Route) → IsPhysical n → IsPhysical (without_route link key n)
 physical-without_route n link key physical =
-    let stays : LinkRoute → Bool = λ r. not ((r.link == link) && same_key r.route key) in
-    record {
-      permission = physical.permission;
-      kind_is = physical.kind_is;
-      from_100 = physical.from_100;
-      to_65535 = physical.to_65535;
-      few_interfaces = physical.few_interfaces;
-      routes_belong = all-filter (λ r. (has_link n r.link ≡ true) × LeadsOut r) stays n.routes physical.routes_belong;
-      keys_distinct = λ l. keys-filter stays l n.routes (physical.keys_distinct l);
-      few_routes = λ l. omega (arith, length-routes_by stays l n.routes, physical.few_routes l);
-    }
+    let stays : LinkRoute → Bool = λ r. not (is_keyed_by link key r) in
+    physical-routed n (filter stays n.routes) physical (all-filter (λ r. (has_link n r.link ≡ true) × LeadsOut r) stays n.routes physical.routes_belong)
+    (λ l. keys-filter stays l n.routes (physical.keys_distinct l))
+    (λ l. omega (arith, length-routes_by stays l n.routes, physical.few_routes l))
 
 -- the routes of an interface, as the tests of the code see them
 pub any-routes_by : (p : Route → Bool) (l : ℕ) (rs : List LinkRoute) → list_any p (routes_by l rs) ≡ list_any (λ r. (r.link == l) && p r.route) rs

@@ -1,5 +1,5 @@
 -- Which commands are refused, and what the others change, after netd's RouteController and NetworkController.
-use Rattle.std.specs.Prelude.{◌∷◌, [], ◌++◌, ◌&&◌, ◌||◌, ◌==◌, ◌<◌, ℕ, Bool, true, false, List, Option, Some, None, length, nat_le, nat_lt, not, filter, map, is_none, is_some, codes, if◌then◌else◌}
+use Rattle.std.specs.Prelude.{◌∷◌, [], ◌++◌, ◌&&◌, ◌||◌, ◌==◌, ℕ, Bool, true, false, List, Option, Some, None, length, nat_le, nat_lt, not, filter, map, is_none, is_some, codes, if◌then◌else◌}
 use Rattle.std.specs.List.{list_any}
 use Rattle.std.specs.Str.{bytes_eq}
 use Rattle.fib_table.specs.Table.{has_key}
@@ -7,22 +7,21 @@ use Rattle.fwmark.specs.declared.permission.Permission.{Permission}
 use Rattle.net_names.specs.declared.code.Code.{Code}
 use Rattle.net_names.specs.declared.code.Code.TheVariants as code
 use Rattle.networks.specs.Lists.{find_id, find_link}
-use Rattle.networks.specs.Network.{has_link, routes_by, local_id}
+use Rattle.networks.specs.Network.{has_link, routes_by, local_id, is_keyed_by}
 use Rattle.networks.specs.declared.network.Network.{Network}
 use Rattle.networks.specs.declared.network.Kind.TheVariants as kind
-use Rattle.networks.specs.declared.network.LinkRoute.{LinkRoute}
 use Rattle.prefixes.specs.Addr.{family_of, same_family}
-use Rattle.prefixes.specs.Route.{same_key}
 use Rattle.prefixes.specs.declared.route.Out.{Out}
 use Rattle.prefixes.specs.declared.route.Out.TheVariants as out
 use Rattle.prefixes.specs.declared.prefix.Prefix.{Prefix}
 use Rattle.prefixes.specs.declared.route.Route.{Route}
 use Rattle.uid_ranges.specs.Ranges.{has, lists_meet, without}
 use Rattle.policy_state.specs.View.{StateView, link_named, most_links, most_networks, most_interfaces, most_routes, most_lockdown_ranges}
-use Rattle.policy_state.specs.declared.command.Command.{Command}
-use Rattle.policy_state.specs.declared.command.Command.TheVariants as command
-use Rattle.policy_state.specs.declared.command.Way.{Way}
-use Rattle.policy_state.specs.declared.command.Way.TheVariants as way
+pub use Rattle.commands.specs.Commands.{FitsTypes}
+use Rattle.commands.specs.declared.command.Command.{Command}
+use Rattle.commands.specs.declared.command.Command.TheVariants as command
+use Rattle.commands.specs.declared.command.Way.{Way}
+use Rattle.commands.specs.declared.command.Way.TheVariants as way
 
 -- a reason to refuse a command, and the code that says so
 pub record Reason : Type 0 where
@@ -141,12 +140,6 @@ reasons s (command.LockdownRemove range) = because code.NoEntry (not (has s.lock
 abbrev pub refusal : StateView → Command → Option Code
 refusal s c = first_that_holds (reasons s c)
 
--- The numbers that a command puts into a state are those of a `u16`, as every command has them. Goodness keeps them below 65536.
-abbrev pub FitsTypes : Command → Type 0
-FitsTypes (command.LinkAdd name index) = index < 65536
-FitsTypes (command.CreatePhysical net permission) = net < 65536
-FitsTypes _ = Unit {0}
-
 -- the network of this id changed, and no other
 abbrev pub with_net : ℕ → (Network → Network) → StateView → StateView
 with_net net change s = record s { networks = map (λ n. if net == n.id then change n else n) s.networks }
@@ -157,10 +150,6 @@ with_link link n = if has_link n link then n else record n { interfaces = n.inte
 
 abbrev pub with_route : ℕ → Route → Network → Network
 with_route link route n = record n { routes = n.routes ++ record { link = link; route = route } ∷ [] }
-
--- the route belongs to the link and has the key
-abbrev pub is_keyed_by : ℕ → Route → LinkRoute → Bool
-is_keyed_by link key r = (r.link == link) && same_key r.route key
 
 abbrev pub without_route : ℕ → Route → Network → Network
 without_route link key n = record n { routes = filter (λ r. not (is_keyed_by link key r)) n.routes }

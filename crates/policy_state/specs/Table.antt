@@ -6,6 +6,8 @@
 -- beside them.
 use Rattle.std.specs.Prelude.{◌∷◌, [], ◌++◌, ℕ, ◌+◌, ◌*◌, Bool, true, false, List, map, filter, flat_map, Some, None}
 use Rattle.std.proofs.Common.{lit≤}
+use Rattle.networks.specs.Network.{local_id}
+use Rattle.rule_match.specs.Packet.{lo}
 use Rattle.fwmark.specs.Permission.{bits_of}
 use Rattle.fwmark.specs.declared.permission.Permission.{Permission}
 use Rattle.fwmark.specs.declared.permission.Permission.TheVariants as needs
@@ -57,27 +59,27 @@ root_range = record { first = record { number = 0; in_range = lit≤ tt }; last 
 -- root's packets that are bound to the interface, even under lockdown
 abbrev pub root_interface_rule : PhysicalLink → Rule
 root_interface_rule l =
-    record { priority = 10500; mark = permission_word l.permission; mask = permission_word l.permission; incoming = Some 1; outgoing = Some l.link; uids = Some root_range; action = action.Table (link_table l.link) }
+    record { priority = 10500; mark = permission_word l.permission; mask = permission_word l.permission; incoming = Some lo; outgoing = Some l.link; uids = Some root_range; action = action.Table (link_table l.link) }
 
 -- RULE_PRIORITY_PROHIBIT_NON_VPN: unprotected packets of a range that is locked down
 abbrev pub lockdown_rule : UidRange → Rule
 lockdown_rule range =
-    record { priority = 12500; mark = 0; mask = 0x20000; incoming = Some 1; outgoing = None; uids = Some range; action = action.Prohibit }
+    record { priority = 12500; mark = 0; mask = 0x20000; incoming = Some lo; outgoing = None; uids = Some range; action = action.Prohibit }
 
 -- RULE_PRIORITY_EXPLICIT_NETWORK: packets that select the network explicitly and have its permission
 abbrev pub explicit_rule : PhysicalLink → Rule
 explicit_rule l =
-    record { priority = 13000; mark = l.net + 0x10000 + permission_word l.permission; mask = 0x1ffff + permission_word l.permission; incoming = Some 1; outgoing = None; uids = None; action = action.Table (link_table l.link) }
+    record { priority = 13000; mark = l.net + 0x10000 + permission_word l.permission; mask = 0x1ffff + permission_word l.permission; incoming = Some lo; outgoing = None; uids = None; action = action.Table (link_table l.link) }
 
--- RULE_PRIORITY_EXPLICIT_NETWORK: packets that select the local network, whose id is 99, explicitly
+-- RULE_PRIORITY_EXPLICIT_NETWORK: packets that select the local network explicitly
 abbrev pub explicit_local_rule : Rule
 explicit_local_rule =
-    record { priority = 13000; mark = 0x10063; mask = 0x1ffff; incoming = Some 1; outgoing = None; uids = None; action = action.Table local_table }
+    record { priority = 13000; mark = 0x10000 + local_id; mask = 0x1ffff; incoming = Some lo; outgoing = None; uids = None; action = action.Table local_table }
 
 -- RULE_PRIORITY_OUTPUT_INTERFACE: packets that are bound to the interface and have its network's permission
 abbrev pub bound_rule : PhysicalLink → Rule
 bound_rule l =
-    record { priority = 14000; mark = permission_word l.permission; mask = permission_word l.permission; incoming = Some 1; outgoing = Some l.link; uids = None; action = action.Table (link_table l.link) }
+    record { priority = 14000; mark = permission_word l.permission; mask = permission_word l.permission; incoming = Some lo; outgoing = Some l.link; uids = None; action = action.Table (link_table l.link) }
 
 -- RULE_PRIORITY_LOCAL_NETWORK: packets that select no network explicitly
 abbrev pub local_rule : Rule
@@ -87,7 +89,7 @@ local_rule =
 -- RULE_PRIORITY_IMPLICIT_NETWORK: packets that name the network without selecting it, where it asks for no permission
 abbrev pub implicit_rule : PhysicalLink → Rule
 implicit_rule l =
-    record { priority = 19000; mark = l.net; mask = 0x1ffff; incoming = Some 1; outgoing = None; uids = None; action = action.Table (link_table l.link) }
+    record { priority = 19000; mark = l.net; mask = 0x1ffff; incoming = Some lo; outgoing = None; uids = None; action = action.Table (link_table l.link) }
 
 -- RULE_PRIORITY_UNREACHABLE: all packets
 abbrev pub last_rule : Rule
@@ -128,7 +130,7 @@ rules_at s Implicit = map implicit_rule (filter is_free (physical_links s))
 rules_at s Last = last_rule ∷ []
 
 -- the rules that the kernel has in each family for a state, beside its own, in order
-abbrev pub rule_table : StateView → List Rule
+unfoldable pub rule_table : StateView → List Rule
 rule_table s = flat_map (rules_at s) levels
 
 -- the rules that a kernel is asked for at the start, in this order

@@ -3,6 +3,7 @@ use Rattle.std.specs.Prelude.{◌≡◌, ℕ, ◌≤◌, ◌<◌, ◌==◌, ◌&
 use Rattle.std.specs.List.{list_any, find, AllByRecursion}
 use Rattle.std.specs.Option.{option_map}
 use Rattle.std.specs.Str.{bytes_eq}
+use Rattle.rule_match.specs.Packet.{lo}
 use Rattle.fib_table.specs.Table.{are_keys_distinct}
 use Rattle.fwmark.specs.declared.permission.Permission.{Permission}
 use Rattle.networks.specs.Lists.{are_distinct, AreKeyed}
@@ -25,7 +26,7 @@ pub record StateView : Type 0 where
 
 -- `lo`, by which the device reaches itself
 abbrev pub loopback_link : Link
-loopback_link = record { name = codes "lo"; index = 1 }
+loopback_link = record { name = codes "lo"; index = lo }
 
 abbrev pub start : StateView
 start = record { links = loopback_link ∷ []; networks = local_network ∷ []; lockdown = [] }

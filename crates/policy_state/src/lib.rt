@@ -2,15 +2,17 @@
 #![tactic(auto)]
 
 mod change;
-mod command;
 mod fault;
+mod laws;
 mod link;
 mod reasons;
 mod routes;
 mod state;
 mod step;
 
-pub use command::{Command, Way};
+pub use commands::{Command, Way};
 pub use fault::StepFault;
+pub use laws::table_rises;
 pub use link::Link;
+pub use routes::{key_of, route_of};
 pub use state::State;

@@ -7,11 +7,11 @@ ghost use Rattle.networks.specs.Lists.{find_id};
 ghost use Rattle.policy_state.specs.Step as step;
 ghost use Rattle.policy_state.specs.View.{link_named};
 
-use crate::command::{Command, Way};
 use crate::routes::{count_of, has_key, is_way_of_other_family, key_of, route_of};
 use crate::state::State;
+use commands::{Command, Way};
 use net_names::{Code, Name};
-use networks::{Kind, Network};
+use networks::{Kind, LOCAL_ID, Network};
 use prefixes::Prefix;
 use uid_ranges::UidRange;
 
@@ -35,9 +35,6 @@ const LEAST_ID: u16 = 100;
 
 /// The least index of a link that can be added: `lo` has index 1.
 const LEAST_INDEX: u16 = 2;
-
-/// The id of the local network.
-const LOCAL_ID: u16 = 99;
 
 fn is_lo(name: &Name) -> bool
     ensures { result ≡ bytes_eq name.now (codes "lo") }

@@ -2,10 +2,10 @@
 ghost use Rattle.std.specs.Prelude.{◌≡◌, ◌==◌, length, filter};
 ghost use Rattle.std.specs.List.{list_any};
 ghost use Rattle.fib_table.specs.Table.{has_key};
-ghost use Rattle.networks.specs.Network.{routes_by};
+ghost use Rattle.networks.specs.Network.{is_keyed_by, routes_by};
 ghost use Rattle.policy_state.specs.Step as step;
 
-use crate::command::Way;
+use commands::Way;
 use networks::{LinkRoute, Network};
 use prefixes::{Out, Prefix, Route, same_family};
 
@@ -27,8 +27,8 @@ fn out_of(link: u16, way: Way) -> Out
     }
 }
 
-// The route that an addition names.
-pub(crate) fn route_of(link: u16, prefix: Prefix, way: Way) -> Route
+/// The route that an addition names, by this link.
+pub fn route_of(link: u16, prefix: Prefix, way: Way) -> Route
     ensures { result ≡ step.route_of link prefix way }
 {
     Route {
@@ -37,8 +37,8 @@ pub(crate) fn route_of(link: u16, prefix: Prefix, way: Way) -> Route
     }
 }
 
-// A route of the key that a removal names.
-pub(crate) fn key_of(link: u16, prefix: Prefix, special: bool) -> Route
+/// A route of the key that a removal names, by this link.
+pub fn key_of(link: u16, prefix: Prefix, special: bool) -> Route
     ensures { result ≡ step.key_of link prefix special }
 {
     let way = if special {
@@ -60,7 +60,7 @@ pub(crate) fn is_way_of_other_family(prefix: Prefix, way: Way) -> bool
 }
 
 fn any_keyed_by(routes: &[LinkRoute], link: u16, key: &Route) -> bool
-    ensures { result ≡ list_any (step.is_keyed_by link key.now) routes.now }
+    ensures { result ≡ list_any (is_keyed_by link key.now) routes.now }
 {
     routes.iter().any(|route| route.is_keyed_by(link, key))
 }

@@ -4,12 +4,10 @@ ghost use Rattle.policy_state.specs.View.{IsGood, start, link_named, name_of};
 use crate::link::Link;
 use net_names::Name;
 use networks::Networks;
+use rule_match::LOOPBACK;
 use std::alloc::{AllocError, Global};
 use std::marker::Model;
 use uid_ranges::RangeList;
-
-/// The link `lo`, by which the device reaches itself.
-const LOOPBACK_INDEX: u16 = 1;
 
 /// What the policy goes by. A state doesn't change: a command makes a new one.
 #[derive(Debug, Drop)]
@@ -41,7 +39,7 @@ impl State {
         let mut links = Vec::new(alloc);
         links.push(Link {
             name,
-            index: LOOPBACK_INDEX,
+            index: LOOPBACK,
         })?;
         Ok(State {
             alloc,

@@ -1,8 +1,10 @@
 -- The tests of equality are true exactly where two values are equal.
-use Rattle.std.proofs.Common.{◌≡◌, ℕ, ◌==◌, Bool, true, Option, Some, None, refl, sym, ◌∙◌, ap, subst}
+use Rattle.std.proofs.Common.{◌≡◌, ℕ, ◌==◌, true, refl, sym, ◌∙◌, ap, subst}
 use Rattle.std.specs.Option.{option_eq}
 use Rattle.std.proofs.Props.{props}
-use Rattle.std.proofs.lemmas.Bool.{and_parts, and_from, eqb-true, eq-eqb, false≢true}
+use Rattle.std.proofs.lemmas.Bool.{and_parts, and_from, eqb-true, false≢true}
+use Rattle.list_lemmas.proofs.Numbers.{eqb-refl}
+use Rattle.list_lemmas.proofs.Options.{option_eq-true, option_eq-refl}
 use Rattle.prefixes.specs.Addr.{IsPrefix, same_family, same_addr}
 use Rattle.prefixes.specs.Prefix.{same_prefix}
 use Rattle.prefixes.specs.Route.{link_of, same_out, same_route, same_key}
@@ -14,19 +16,6 @@ use Rattle.prefixes.specs.declared.prefix.Prefix.{Prefix}
 use Rattle.prefixes.specs.declared.route.Out.{Out}
 use Rattle.prefixes.specs.declared.route.Out.TheVariants as out
 use Rattle.prefixes.specs.declared.route.Route.{Route}
-
-pub option_eq-true : {X : Type 0} (e : X → X → Bool) → ((x y : X) → e x y ≡ true → x ≡ y) → (a b : Option X) → option_eq e a b ≡ true → a ≡ b
-option_eq-true e exact None None h = refl
-option_eq-true e exact None (Some y) h = absurd (false≢true h)
-option_eq-true e exact (Some x) None h = absurd (false≢true h)
-option_eq-true e exact (Some x) (Some y) h = ap Some (exact x y h)
-
-pub option_eq-refl : {X : Type 0} (e : X → X → Bool) → ((x : X) → e x x ≡ true) → (a : Option X) → option_eq e a a ≡ true
-option_eq-refl e same None = refl
-option_eq-refl e same (Some x) = same x
-
-pub eqb-refl : (n : ℕ) → (n == n) ≡ true
-eqb-refl n = eq-eqb n n refl
 
 pub same_family-true : (a b : Family) → same_family a b ≡ true → a ≡ b
 same_family-true family.V4 family.V4 h = refl

@@ -11,7 +11,9 @@ pub use addr::{Addr, Family};
 pub use best::{best_laws, best_route, longer_of};
 pub use prefix::Prefix;
 pub use route::{Answer, Out, Route};
-pub use same::{same_addr, same_family, same_key, same_out, same_prefix, same_route};
+pub use same::{
+    same_addr, same_family, same_gateway, same_key, same_link, same_out, same_prefix, same_route,
+};
 
 #[cfg(test)]
 mod tests;

@@ -40,7 +40,8 @@ pub fn same_prefix(a: &Prefix, b: &Prefix) -> bool
     same_addr(a.base, b.base) && a.len == b.len
 }
 
-fn same_gateway(a: Option<Addr>, b: Option<Addr>) -> bool
+/// Whether two gateways are equal, or none twice.
+pub fn same_gateway(a: Option<Addr>, b: Option<Addr>) -> bool
     ensures { result ≡ option_eq same_addr a b }
 {
     match (a, b) {
@@ -50,7 +51,8 @@ fn same_gateway(a: Option<Addr>, b: Option<Addr>) -> bool
     }
 }
 
-fn same_link(a: Option<u16>, b: Option<u16>) -> bool
+/// Whether two links are equal, or none twice.
+pub fn same_link(a: Option<u16>, b: Option<u16>) -> bool
     ensures { result ≡ option_eq ◌==◌ a b }
 {
     match (a, b) {

@@ -4,6 +4,7 @@ use Rattle.std.specs.Prelude.{◌⊎◌}
 use Rattle.std.specs.List.{AllByRecursion}
 use Rattle.std.proofs.lemmas.Bool.{cases_Bool, false≢true, false_from_ne_true}
 use Rattle.std.proofs.lemmas.List.{reverse-append, append-nil}
+use Rattle.policy_state.proofs.TableLevels.{table-behind_own}
 use Rattle.fib_table.specs.Table.{has_key, has_route}
 use Rattle.prefixes.specs.Addr.{same_family}
 use Rattle.prefixes.specs.declared.route.Route.{Route}
@@ -17,23 +18,23 @@ use Rattle.rule_law.proofs.Orders.{HasEachOnce-filter, NoneBelow-has}
 use Rattle.rule_match.specs.Rule.{same_rule}
 use Rattle.rule_match.specs.declared.rule.Rule.{Rule}
 use Rattle.rule_match.proofs.Sames.{same_rule-true, same_rule-refl}
-use Rattle.kernel_model.specs.Kind.{rule_kind}
+use Rattle.rule_kinds.specs.Kind.{rule_kind}
 use Rattle.kernel_model.specs.PlanView.{PlanView}
 use Rattle.kernel_model.specs.Same.{same_request, Distinct}
 use Rattle.kernel_model.specs.State.{KernelState, rules_of, own_rule, is_absent, is_present, is_route}
 use Rattle.kernel_model.specs.Switch.{twins, additions, deletions, requests_of}
 use Rattle.kernel_model.specs.declared.request.Request.{Request}
 use Rattle.kernel_model.specs.declared.request.Request.TheVariants as req
-use Rattle.kernel_model.proofs.Alls.{all-append, all-reverse}
+use Rattle.list_lemmas.proofs.Alls.{all-append, all-reverse}
 use Rattle.policy_state.specs.Step.{changed, route_of}
 use Rattle.policy_state.specs.Table.{rule_table, link_table}
 use Rattle.policy_state.specs.View.{StateView, link_named}
-use Rattle.policy_state.specs.declared.command.Command.{Command}
-use Rattle.policy_state.specs.declared.command.Command.TheVariants as command
+use Rattle.commands.specs.declared.command.Command.{Command}
+use Rattle.commands.specs.declared.command.Command.TheVariants as command
 use Rattle.policy_state.proofs.Goodness.{good-changed}
 use Rattle.rule_compile.specs.Asked.{routes_come, asked_adds, asked_deletes, MayStep}
 use Rattle.rule_compile.proofs.Asks.{Asks, Rules, Comes, Goes, asked-come}
-use Rattle.rule_compile.proofs.Tables.{table-behind_own, table-once}
+use Rattle.rule_compile.proofs.Tables.{table-once}
 
 -- what holds of the rules of a list in either family holds of what asks for them
 pub all-twins : (P : Request → Type 0) (rules : List Rule) → ((f : Family) (x : Rule) → has rule_kind rules x ≡ true → P (req.Rule f x)) → AllByRecursion P (twins rules)

@@ -5,6 +5,7 @@ use Rattle.std.specs.List.{AllByRecursion}
 use Rattle.std.proofs.lemmas.Bool.{not-false}
 use Rattle.std.proofs.lemmas.List.{append-nil}
 use Rattle.std.proofs.lemmas.Grind.{flat_map-append}
+use Rattle.kernel_model.specs.State.{device_table}
 use Rattle.fib_table.specs.Table as fib
 use Rattle.fib_table.specs.Table.{has_key, has_route, routes_in}
 use Rattle.fwmark.specs.declared.permission.Permission.{Permission}
@@ -19,21 +20,21 @@ use Rattle.rule_law.specs.Plans.{beyond}
 use Rattle.rule_law.specs.Rules.{has}
 use Rattle.rule_law.proofs.Membership.{filter-none}
 use Rattle.rule_match.specs.declared.rule.Rule.{Rule}
-use Rattle.kernel_model.specs.Kind.{rule_kind}
+use Rattle.rule_kinds.specs.Kind.{rule_kind}
 use Rattle.kernel_model.specs.PlanView.{PlanView}
 use Rattle.kernel_model.specs.Switch.{twins, additions, deletions, requests_of}
 use Rattle.kernel_model.specs.declared.request.Request.{Request}
 use Rattle.kernel_model.specs.declared.request.Request.TheVariants as req
-use Rattle.kernel_model.proofs.Alls.{all-append_parts}
-use Rattle.policy_state.specs.Step.{refusal, reasons, changed, with_net, with_link, with_route, without_route, with_permission, route_of, key_of, routes_at, of_link, is_in, is_net_unknown}
+use Rattle.list_lemmas.proofs.Alls.{all-append_parts, all-from}
+use Rattle.policy_state.specs.Step.{refusal, reasons, changed, with_net, with_link, with_route, without_route, with_permission, route_of, key_of, routes_at}
 use Rattle.policy_state.specs.Table.{rule_table, route_list, link_table, physical_links, routes_of_net}
 use Rattle.policy_state.specs.View.{StateView, IsGood, IsPhysical, link_named}
-use Rattle.policy_state.specs.declared.command.Command.{Command}
-use Rattle.policy_state.specs.declared.command.Command.TheVariants as command
-use Rattle.policy_state.specs.declared.command.Way.{Way}
-use Rattle.policy_state.proofs.Accepted.{none_holds, some_there, link_there, of_link-at, changed_by_link-at, is_in-at, routes_at-at}
+use Rattle.commands.specs.declared.command.Command.{Command}
+use Rattle.commands.specs.declared.command.Command.TheVariants as command
+use Rattle.commands.specs.declared.command.Way.{Way}
+use Rattle.policy_state.proofs.Accepted.{none_holds, of_link-at, changed_by_link-at, routes_at-at, Routed, routed}
 use Rattle.policy_state.proofs.Nets.{Standing, standing, all_links, with_change, not_local-linked, is_physical_there}
-use Rattle.policy_state.proofs.PhysicalLinks.{all-from, network_at}
+use Rattle.policy_state.proofs.PhysicalLinks.{network_at}
 use Rattle.rule_compile.specs.Asked.{routes_come, routes_gone, asked_adds, asked_deletes, asked}
 use Rattle.rule_compile.proofs.RouteTables.{IsNetwork, OneOfKey, one_of_key, table-at, route-comes, route-goes}
 use Rattle.rule_compile.proofs.Turns.{links-kept}
@@ -51,7 +52,7 @@ pub record AsksOne (s : StateView) (c : Command) : Type 0 where
   pub adds : asked_adds s c ≡ req.Route table route ∷ []
   pub deletes : asked_deletes s c ≡ []
   pub rules : rule_table (changed s c) ≡ rule_table s
-  pub not_own : table ≢ 255
+  pub not_own : table ≢ device_table
   pub absent : has_key (routes_in table (route_list s)) route ≡ false
   pub routes : (m : ℕ) → routes_in m (route_list (changed s c)) ≡ (if table == m then routes_in m (route_list s) ++ route ∷ [] else routes_in m (route_list s))
 
@@ -62,7 +63,7 @@ pub record GivesUpOne (s : StateView) (c : Command) : Type 0 where
   pub adds : asked_adds s c ≡ []
   pub deletes : asked_deletes s c ≡ req.Route table route ∷ []
   pub rules : rule_table (changed s c) ≡ rule_table s
-  pub not_own : table ≢ 255
+  pub not_own : table ≢ device_table
   pub there : has_route (routes_in table (route_list s)) route ≡ true
   pub routes : (m : ℕ) → routes_in m (route_list (changed s c)) ≡ (if table == m then fib.without_route (routes_in m (route_list s)) route else routes_in m (route_list s))
 
@@ -83,6 +84,7 @@ no-deletions : (old new : List Rule) (gone : List (ℕ × Route)) → new ≡ ol
 no-deletions old new gone same = ap (λ rules. deletions old rules gone) same ∙ rw (beyond-same old) refl
 
 table-same : (s t : StateView) → physical_links t ≡ physical_links s → t.lockdown ≡ s.lockdown → rule_table t ≡ rule_table s
+unfolding rule_table
 table-same s t links lockdown = rw (links, lockdown) refl
 
 -- commands that leave the routes
@@ -120,22 +122,7 @@ only_rules s c come gone routes = Rules (record {
 
 -- commands that change a route
 
--- the network and the interface of a route that is accepted
-record Routed (s : StateView) (net : ℕ) (name : List ℕ) : Type 0 where
-  n : Network
-  link : ℕ
-  found : find_id net s.networks ≡ Some n
-  named : link_named s name ≡ Some link
-  has : has_link n link ≡ true
-
-routed : (s : StateView) (net : ℕ) (name : List ℕ) → is_net_unknown s net ≡ false → not (of_link s name (is_in s net)) ≡ false → Routed s net name
-routed s net name known linked =
-    let there = some_there (find_id net s.networks) known in
-    let at = link_there s name (is_in s net) (not-false (of_link s name (is_in s net)) linked) in
-    let found : find_id net s.networks ≡ Some there.0 = there.1 in
-    record { n = there.0; link = at.0; found = found; named = at.1.0; has = sym (is_in-at s net there.0 found at.0) ∙ at.1.1 }
-
-not_own_table : (link : ℕ) → link_table link ≢ 255
+not_own_table : (link : ℕ) → link_table link ≢ device_table
 not_own_table link same = omega (arith, same)
 
 -- the network among the others

@@ -1,11 +1,10 @@
 -- What is asked is well formed, since each rule and each route of a good state is.
-use Rattle.std.proofs.Common.{◌≡◌, ◌≤◌, ◌==◌, ◌∷◌, [], ◌++◌, ℕ, zero, suc, List, Some, None, true, refl, sym, ◌∙◌, ap, subst, inl, inr, map, filter, reverse, slice_get, arith}
-use Rattle.std.specs.Prelude.{flat_map}
+use Rattle.std.proofs.Common.{◌≡◌, ◌≤◌, ◌==◌, ◌∷◌, [], ◌++◌, ℕ, List, Some, None, true, refl, sym, ◌∙◌, ap, subst, inl, inr, map, filter, reverse, slice_get, arith}
 use Rattle.std.specs.List.{list_any, AllByRecursion}
 use Rattle.std.specs.Option.{option_map}
 use Rattle.std.proofs.lemmas.Bool.{cases_Bool, false≢true}
-use Rattle.std.proofs.lemmas.Bool.Decides.{eqb_tells}
 use Rattle.std.proofs.lemmas.Option.{slice_get-map}
+use Rattle.list_lemmas.proofs.Numbers.{all-among, eqb-refl}
 use Rattle.fib_table.specs.Table.{has_route, routes_in}
 use Rattle.networks.specs.Network.{has_link}
 use Rattle.networks.specs.declared.network.LinkRoute.{LinkRoute}
@@ -14,21 +13,21 @@ use Rattle.prefixes.specs.Route.{same_route}
 use Rattle.prefixes.specs.declared.route.Out.{Out}
 use Rattle.prefixes.specs.declared.route.Out.TheVariants as out
 use Rattle.prefixes.specs.declared.route.Route.{Route}
-use Rattle.prefixes.proofs.Sames.{eqb-refl, same_route-true}
+use Rattle.prefixes.proofs.Sames.{same_route-true}
 use Rattle.rule_law.specs.Rules.{has}
 use Rattle.rule_law.specs.Plans.{beyond}
 use Rattle.rule_match.specs.declared.rule.Rule.{Rule}
 use Rattle.kernel_model.specs.Form.{IsWellFormedRule, LeadsWell, IsWellFormedRoute, IsWellFormed}
-use Rattle.kernel_model.specs.Kind.{rule_kind}
+use Rattle.rule_kinds.specs.Kind.{rule_kind}
 use Rattle.kernel_model.specs.Switch.{twins, additions, deletions}
 use Rattle.kernel_model.specs.declared.request.Request.{Request}
-use Rattle.kernel_model.proofs.Alls.{all-append, all-append_parts, all-reverse}
+use Rattle.list_lemmas.proofs.Alls.{all-append, all-append_parts, all-reverse, all-at, all-flat, all-from, all-mapped, all-part}
 use Rattle.policy_state.specs.Step.{changed}
 use Rattle.policy_state.specs.Table.{PhysicalLink, physical_links, is_free, Level, RootInterface, Lockdown, Explicit, BoundInterface, LocalNetwork, Implicit, Last, rules_at, rule_table, route_list, routes_of_net, table_of, root_interface_rule, lockdown_rule, explicit_rule, explicit_local_rule, bound_rule, local_rule, implicit_rule, last_rule}
 use Rattle.policy_state.specs.View.{StateView, IsGood, IsPhysical, LeadsOut}
-use Rattle.policy_state.specs.declared.command.Command.{Command}
+use Rattle.commands.specs.declared.command.Command.{Command}
 use Rattle.policy_state.proofs.Levels.{AtLevel, InRow, in_row, in_row_or_last, is_among, is_only, table-level}
-use Rattle.policy_state.proofs.PhysicalLinks.{all-at, all-flat, all-from, all-mapped, links-are, network_at}
+use Rattle.policy_state.proofs.PhysicalLinks.{links-are, network_at}
 use Rattle.rule_compile.specs.Asked.{asked_adds, asked_deletes}
 use Rattle.rule_compile.proofs.Asking.{all-twins, is_beyond}
 use Rattle.rule_compile.proofs.Asks.{Asks, Rules, Comes, Goes}
@@ -69,18 +68,6 @@ rule-formed : (s : StateView) (x : Rule) → IsGood s → has rule_kind (rule_ta
 rule-formed s x good h = let at : AtLevel s x = table-level s x h in level-formed s at.level x good at.at
 
 -- the routes of a state
-
-all-part : {X N : Type 0} (P : X → Type 0) (f : N → List X) (ns : List N) (place : ℕ) (n : N) → AllByRecursion P (flat_map f ns) → slice_get ns place ≡ Some n → AllByRecursion P (f n)
-all-part P f [] place n h at = absurd cc
-all-part P f (m ∷ ms) zero n h at = let is : m ≡ n = cc in subst (λ k. AllByRecursion P (f k)) is (all-append_parts P (f m) (flat_map f ms) h).0
-all-part P f (m ∷ ms) (suc place) n h at = all-part P f ms place n (all-append_parts P (f m) (flat_map f ms) h).1 at
-
-all-among : (P : ℕ → Type 0) (xs : List ℕ) (x : ℕ) → list_any (λ y. y == x) xs ≡ true → AllByRecursion P xs → P x
-all-among P [] x h all = absurd (false≢true h)
-all-among P (y ∷ ys) x h all = elim (eqb_tells y x) [
-  | inl (test, same) ↦ subst P same all.0
-  | inr (test, differs) ↦ all-among P ys x (rw test at h) all.1
-]
 
 leads_well : (r : LinkRoute) → 2 ≤ r.link → LeadsOut r → IsWellFormedRoute r.route
 leads_well r two leads = by r.route.out refl

@@ -3,6 +3,7 @@ use Rattle.std.proofs.Common.{◌≡◌, ◌<◌, ◌≤◌, ◌%◌, ◌∷◌,
 use Rattle.std.specs.List.{AllByRecursion, filter_map}
 use Rattle.std.proofs.lemmas.Bool.{cases_Bool, false≢true, false_from_ne_true, or_parts}
 use Rattle.std.proofs.lemmas.Bool.Decides.{nat_tests}
+use Rattle.list_lemmas.proofs.Alls.{all-from}
 use Rattle.uid_ranges.specs.Range.{holds}
 use Rattle.uid_ranges.specs.Ranges.{AreDisjoint, meets_any, self_meets}
 use Rattle.uid_ranges.specs.declared.range.UidRange.{UidRange}
@@ -18,15 +19,15 @@ use Rattle.rule_match.specs.Rule.{same_rule}
 use Rattle.rule_match.specs.declared.rule.Action.TheVariants as action
 use Rattle.rule_match.specs.declared.rule.Rule.{Rule}
 use Rattle.rule_match.proofs.Sames.{same_rule-true}
-use Rattle.kernel_model.specs.Kind.{rule_kind}
-use Rattle.kernel_model.specs.KindLaws.{alike, alike_self}
+use Rattle.rule_kinds.specs.Kind.{rule_kind}
+use Rattle.rule_kinds.specs.KindLaws.{alike, alike_self}
 use Rattle.policy_state.specs.View.{StateView, IsGood}
 use Rattle.policy_state.specs.Step.{FitsTypes, refusal, changed}
 use Rattle.policy_state.specs.Table.{Level, RootInterface, Lockdown, Explicit, BoundInterface, LocalNetwork, Implicit, Last, rules_at, lockdown_rule, explicit_local_rule, PhysicalLink, physical_links, link_table, local_table}
-use Rattle.policy_state.specs.declared.command.Command.{Command}
+use Rattle.commands.specs.declared.command.Command.{Command}
 use Rattle.policy_state.proofs.Goodness.{good-changed}
 use Rattle.policy_state.proofs.Levels.{InRow, in_row, is_only, one_place, id-from, id-below}
-use Rattle.policy_state.proofs.PhysicalLinks.{IsLinkIn, link_in, links-are, network_at, all-from}
+use Rattle.policy_state.proofs.PhysicalLinks.{IsLinkIn, link_in, links-are, network_at}
 use Rattle.rule_compile.specs.Rows.{rule_for, row_of}
 use Rattle.rule_compile.specs.declared.link_rules.Row.{Row}
 use Rattle.rule_compile.specs.declared.link_rules.Row.TheVariants as row

@@ -8,6 +8,7 @@ use Rattle.std.proofs.lemmas.List.{length-map}
 use Rattle.std.proofs.lemmas.List.Elements.{filter_map-append, filter-append}
 use Rattle.std.proofs.lemmas.List.Sums.{sum_by_from}
 use Rattle.std.proofs.lemmas.Option.{slice_get-map, none-some}
+use Rattle.list_lemmas.proofs.Numbers.{is_there}
 use Rattle.fwmark.specs.Permission.{bits_of}
 use Rattle.fwmark.specs.declared.permission.Permission.{Permission}
 use Rattle.fwmark.specs.declared.permission.Permission.TheVariants as needs
@@ -21,11 +22,10 @@ use Rattle.rule_match.specs.Rule.{same_rule, same_selectors, AreSelectorsEqual}
 use Rattle.rule_match.specs.declared.rule.Action.TheVariants as action
 use Rattle.rule_match.specs.declared.rule.Rule.{Rule}
 use Rattle.rule_match.proofs.Sames.{same_rule-true, same_rule-refl, same_selectors-true}
-use Rattle.kernel_model.specs.Kind.{rule_kind}
-use Rattle.kernel_model.specs.KindLaws.{alike}
+use Rattle.rule_kinds.specs.Kind.{rule_kind}
+use Rattle.rule_kinds.specs.KindLaws.{alike}
 use Rattle.policy_state.specs.Table.{PhysicalLink, physical_links_of, physical_links, is_free, link_table, RootInterface, Lockdown, Explicit, BoundInterface, Implicit, rules_at, rule_table, root_interface_rule, lockdown_rule, explicit_rule, explicit_local_rule, bound_rule, local_rule, implicit_rule, last_rule}
 use Rattle.policy_state.specs.View.{StateView}
-use Rattle.policy_state.proofs.PhysicalLinks.{is_there}
 use Rattle.rule_compile.specs.Rows.{physical_link, rule_for, row_of, rules_each, count_for}
 use Rattle.rule_compile.specs.declared.link_rules.Row.{Row}
 use Rattle.rule_compile.specs.declared.link_rules.Row.TheVariants as row
@@ -213,6 +213,7 @@ counts-joined (n ∷ ns) =
 
 -- how many rules there are for a state
 pub count-table : (s : StateView) → length (rule_table s) ≡ length s.lockdown + 3 + sum_by count_for s.networks
+unfolding rule_table
 count-table s =
     let root : length (rules_at s RootInterface) ≡ length (physical_links s) = length-map (physical_links s) root_interface_rule in
     let lockdown : length (rules_at s Lockdown) ≡ length s.lockdown = length-map s.lockdown lockdown_rule in

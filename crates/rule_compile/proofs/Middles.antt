@@ -7,7 +7,7 @@ use Rattle.rule_law.specs.Rules.{has, HasEachOnce}
 use Rattle.rule_law.specs.Plans.{beyond}
 use Rattle.rule_law.proofs.Membership.{filter-none, filter-same, has_append}
 use Rattle.rule_match.specs.declared.rule.Rule.{Rule}
-use Rattle.kernel_model.specs.Kind.{rule_kind}
+use Rattle.rule_kinds.specs.Kind.{rule_kind}
 use Rattle.rule_compile.specs.Middles.{AreMiddles}
 use Rattle.rule_compile.proofs.Rows.{once-apart, once-behind}
 

@@ -4,19 +4,22 @@ use Rattle.std.specs.Prelude.{flat_map, ◌⊎◌, if◌then◌else◌}
 use Rattle.std.specs.List.{list_any, AllByRecursion}
 use Rattle.std.proofs.lemmas.Bool.{cases_Bool, false≢true, false_from_ne_true, and_parts, or_parts, or_right, or_left, not-true, eqb-true, eq-eqb}
 use Rattle.std.proofs.lemmas.List.{map-append, append-nil}
-use Rattle.std.proofs.lemmas.List.Elements.{filter-append}
 use Rattle.std.proofs.lemmas.List.Folds.{list_any-append}
 use Rattle.std.proofs.lemmas.Grind.{flat_map-append}
+use Rattle.list_lemmas.proofs.Numbers.{eqb-refl}
+use Rattle.networks.proofs.Distinct.{apart_front, distinct_behind}
+use Rattle.fib_table.proofs.Tables.{routes_in-append}
+use Rattle.list_lemmas.proofs.Anys.{filter-none, filter-others, none-weaker}
 use Rattle.fib_table.specs.Table as fib
 use Rattle.fib_table.specs.Table.{has_key, has_route, are_keys_distinct, routes_in}
 use Rattle.networks.specs.Lists.{are_distinct}
-use Rattle.networks.specs.Network.{has_link, routes_by, local_network}
+use Rattle.networks.specs.Network.{has_link, routes_by, local_network, is_keyed_by}
 use Rattle.networks.specs.declared.network.LinkRoute.{LinkRoute}
 use Rattle.networks.specs.declared.network.Network.{Network}
 use Rattle.prefixes.specs.Route.{same_key, same_route}
 use Rattle.prefixes.specs.declared.route.Route.{Route}
-use Rattle.prefixes.proofs.Sames.{same_key-true, same_key-refl, same_route-true, same_route-refl, eqb-refl}
-use Rattle.policy_state.specs.Step.{with_route, without_route, is_keyed_by}
+use Rattle.prefixes.proofs.Sames.{same_key-true, same_key-refl, same_route-true, same_route-refl}
+use Rattle.policy_state.specs.Step.{with_route, without_route}
 use Rattle.policy_state.specs.Table.{link_table, routes_of_net}
 use Rattle.policy_state.specs.View.{IsPhysical, LeadsOut}
 use Rattle.policy_state.proofs.Nets.{all_links, links_around}
@@ -24,20 +27,6 @@ use Rattle.rule_compile.specs.Rows.{keyed_by}
 
 abbrev pub IsNetwork : Network → Type 0
 IsNetwork n = (n ≡ local_network) ⊎ IsPhysical n
-
--- lists of which no item passes a test
-
-filter-no : {X : Type 0} (p : X → Bool) (xs : List X) → list_any p xs ≡ false → filter p xs ≡ []
-filter-no p [] h = refl
-filter-no p (x ∷ xs) h = let parts = or_parts (p x) (list_any p xs) h in rw parts.0 (filter-no p xs parts.1)
-
-filter-others : {X : Type 0} (p : X → Bool) (xs : List X) → list_any p xs ≡ false → filter (λ x. not (p x)) xs ≡ xs
-filter-others p [] h = refl
-filter-others p (x ∷ xs) h = let parts = or_parts (p x) (list_any p xs) h in rw parts.0 (ap (λ rest. x ∷ rest) (filter-others p xs parts.1))
-
-any-less : {X : Type 0} (p q : X → Bool) → ((x : X) → q x ≡ false → p x ≡ false) → (xs : List X) → list_any q xs ≡ false → list_any p xs ≡ false
-any-less p q less [] h = refl
-any-less p q less (x ∷ xs) h = let parts = or_parts (q x) (list_any q xs) h in rw (less x parts.0) (any-less p q less xs parts.1)
 
 -- a route and its key
 
@@ -66,13 +55,13 @@ one_of_key (x ∷ xs) key distinct there =
     by : (same_key x key ≡ true) ⊎ (same_key x key ≡ false) → (has_key xs key ≡ true → OneOfKey xs key) → OneOfKey (x ∷ xs) key
     by (inl here) rest =
         let no_key : has_key xs x ≡ false = not-true (has_key xs x) parts.0 in
-        let none : list_any (λ y. same_key y key) xs ≡ false = any-less (λ y. same_key y key) (λ y. same_key y x) (λ y other. sym (same_key-both x key y here) ∙ other) xs no_key in
-        let apart : list_any (λ y. same_route y x) xs ≡ false = any-less (λ y. same_route y x) (λ y. same_key y x) (λ y other. unlike_key y x other) xs no_key in
+        let none : list_any (λ y. same_key y key) xs ≡ false = none-weaker (λ y. same_key y key) (λ y. same_key y x) (λ y other. sym (same_key-both x key y here) ∙ other) xs no_key in
+        let apart : list_any (λ y. same_route y x) xs ≡ false = none-weaker (λ y. same_route y x) (λ y. same_key y x) (λ y other. unlike_key y x other) xs no_key in
         record {
           route = x;
           keyed = here;
           there = rw (same_route-refl x) refl;
-          alone = rw here (ap (λ ys. x ∷ ys) (filter-no (λ y. same_key y key) xs none));
+          alone = rw here (ap (λ ys. x ∷ ys) (filter-none (λ y. same_key y key) xs none));
           others = rw (here, same_route-refl x) (filter-others (λ y. same_key y key) xs none ∙ sym (filter-others (λ y. same_route y x) xs apart));
         }
     by (inr other) rest =
@@ -97,11 +86,6 @@ same_tables a b = elim (cases_Bool (a == b)) [
       let is : a ≡ b = omega (arith, same) in
       false≢true (sym t ∙ eq-eqb a b is)) ∙ sym t
 ]
-
-routes_in-append : (m : ℕ) (xs ys : List (ℕ × Route)) → routes_in m (xs ++ ys) ≡ routes_in m xs ++ routes_in m ys
-routes_in-append m xs ys =
-    ap (map (λ (r : ℕ × Route). r.1)) (filter-append (λ (r : ℕ × Route). r.0 == m) xs ys)
-    ∙ map-append (λ (r : ℕ × Route). r.1) (filter (λ (r : ℕ × Route). r.0 == m) xs) (filter (λ (r : ℕ × Route). r.0 == m) ys)
 
 in-tables : (m : ℕ) (rs : List LinkRoute) → routes_in m (map (λ (r : LinkRoute). (link_table r.link, r.route)) rs) ≡ map (λ (r : LinkRoute). r.route) (filter (λ (r : LinkRoute). link_table r.link == m) rs)
 in-tables m [] = refl
@@ -144,23 +128,6 @@ elsewhere link (n ∷ ns) good absent =
     here (inl local) none = ap (λ m. routes_in (link_table link) (routes_of_net m)) local
     here (inr physical) none = physical-at link n physical ∙ none-by n link n.routes physical.routes_belong none
 
-apart-front : (xs ys : List ℕ) (i : ℕ) → are_distinct (xs ++ ys) ≡ true → list_any (λ m. m == i) ys ≡ true → list_any (λ m. m == i) xs ≡ false
-apart-front [] ys i distinct there = refl
-apart-front (x ∷ xs) ys i distinct there =
-    let parts = and_parts (not (list_any (λ m. m == x) (xs ++ ys))) (are_distinct (xs ++ ys)) distinct in
-    elim (cases_Bool (x == i)) [
-      | inl same ↦
-          let is : x ≡ i = eqb-true x i same in
-          let again : list_any (λ m. m == x) (xs ++ ys) ≡ true =
-          list_any-append (λ m. m == x) xs ys ∙ or_right (list_any (λ m. m == x) xs) (list_any (λ m. m == x) ys) (ap (λ j. list_any (λ m. m == j) ys) is ∙ there) in
-          absurd (false≢true (rw again at parts.0))
-      | inr other ↦ rw other (apart-front xs ys i parts.1 there)
-    ]
-
-distinct-end : (xs ys : List ℕ) → are_distinct (xs ++ ys) ≡ true → are_distinct ys ≡ true
-distinct-end [] ys h = h
-distinct-end (x ∷ xs) ys h = distinct-end xs ys (and_parts (not (list_any (λ m. m == x) (xs ++ ys))) (are_distinct (xs ++ ys)) h).1
-
 in-around : (m : ℕ) (before behind : List Network) (n : Network) → routes_in m (flat_map routes_of_net (before ++ n ∷ behind))
     ≡ routes_in m (flat_map routes_of_net before) ++ (routes_in m (routes_of_net n) ++ routes_in m (flat_map routes_of_net behind))
 in-around m before behind n =
@@ -175,12 +142,12 @@ module _ (before behind : List Network) (n : Network) (link : ℕ) (physical : I
   links = ap are_distinct (sym (links_around before behind n)) ∙ distinct
 
   none_before : routes_in (link_table link) (flat_map routes_of_net before) ≡ []
-  none_before = elsewhere link before good_before (apart-front (all_links before) (n.interfaces ++ all_links behind) link links
+  none_before = elsewhere link before good_before (apart_front (all_links before) (n.interfaces ++ all_links behind) link links
       (list_any-append (λ i. i == link) n.interfaces (all_links behind) ∙ or_left (has_link n link) (list_any (λ i. i == link) (all_links behind)) has))
 
   none_behind : routes_in (link_table link) (flat_map routes_of_net behind) ≡ []
   none_behind = elsewhere link behind good_behind (false_from_ne_true (list_any (λ i. i == link) (all_links behind)) (λ there.
-      false≢true (sym (apart-front n.interfaces (all_links behind) link (distinct-end (all_links before) (n.interfaces ++ all_links behind) links) there) ∙ has)))
+      false≢true (sym (apart_front n.interfaces (all_links behind) link (distinct_behind (all_links before) (n.interfaces ++ all_links behind) links) there) ∙ has)))
 
   -- the table of the interface has its routes alone
   pub table-is : (routes : List Route) (m : Network) → routes_in (link_table link) (routes_of_net m) ≡ routes → routes_in (link_table link) (flat_map routes_of_net (before ++ m ∷ behind)) ≡ routes

@@ -1,17 +1,18 @@
 -- Lists that have each rule once, and rows of rules that are made item by item.
-use Rattle.std.proofs.Common.{◌≡◌, ◌≤◌, ◌<◌, ◌+◌, ◌∷◌, [], ◌++◌, ℕ, zero, suc, length, take, slice_get, Some, None, arith, List, true, refl, sym, ◌∙◌, ap, subst, inl, inr, map, add-one}
+use Rattle.std.proofs.Common.{◌≡◌, ◌<◌, ◌+◌, ◌∷◌, [], ◌++◌, ℕ, length, take, slice_get, Some, List, true, refl, sym, ◌∙◌, ap, subst, inl, inr, map}
 use Rattle.std.specs.Prelude.{flat_map, sum_by}
 use Rattle.std.proofs.lemmas.Bool.{cases_Bool, false≢true}
 use Rattle.std.proofs.lemmas.Grind.{flat_map-append}
 use Rattle.std.proofs.lemmas.List.{map-append, append-nil}
 use Rattle.std.proofs.lemmas.List.Sums.{sum_by_more}
 use Rattle.std.proofs.lemmas.Option.{slice_get_within, get_or_from_slice_get}
+use Rattle.list_lemmas.proofs.Places.{take-next}
 use Rattle.rule_law.specs.Rules.{has, HasEachOnce, AreAbsent}
 use Rattle.rule_law.proofs.Membership.{has_append}
 use Rattle.rule_match.specs.Rule.{same_rule}
 use Rattle.rule_match.specs.declared.rule.Rule.{Rule}
 use Rattle.rule_match.proofs.Sames.{same_rule-true}
-use Rattle.kernel_model.specs.Kind.{rule_kind}
+use Rattle.rule_kinds.specs.Kind.{rule_kind}
 
 -- of a list that has each rule once, no rule of the end stands in the front
 pub once-apart : (xs ys : List Rule) → HasEachOnce rule_kind (xs ++ ys) → AreAbsent rule_kind ys xs
@@ -30,22 +31,6 @@ once-apart (x ∷ xs) ys once = λ y h.
 pub once-behind : (xs ys : List Rule) → HasEachOnce rule_kind (xs ++ ys) → HasEachOnce rule_kind ys
 once-behind [] ys once = once
 once-behind (x ∷ xs) ys once = once-behind xs ys once.1
-
-pub slice_get-past : {N : Type 0} (items : List N) (place : ℕ) → slice_get items place ≡ None → length items ≤ place
-slice_get-past [] place h = omega arith
-slice_get-past (n ∷ ns) zero h = cc
-slice_get-past (n ∷ ns) (suc place) h = let rest : length ns ≤ place = slice_get-past ns place h in omega arith
-
--- one item more of a list that is taken from the front
-
-module _ {N : Type 0} where
-  take-suc : (items : List N) (place : ℕ) (item : N) → slice_get items place ≡ Some item → take (suc place) items ≡ take place items ++ item ∷ []
-  take-suc [] place item h = cc
-  take-suc (n ∷ ns) zero item h = let is : n ≡ item = cc in ap (λ x. x ∷ []) is
-  take-suc (n ∷ ns) (suc place) item h = ap (λ rest. n ∷ rest) (take-suc ns place item h)
-
-  pub take-next : (items : List N) (place : ℕ) (item : N) → slice_get items place ≡ Some item → take (place + 1) items ≡ take place items ++ item ∷ []
-  take-next items place item at = ap (λ n. take n items) (add-one place) ∙ take-suc items place item at
 
 module _ {N : Type 0} (f : N → Rule) where
   pub row-more : (items : List N) (place : ℕ) (item : N) → slice_get items place ≡ Some item → map f (take (place + 1) items) ≡ map f (take place items) ++ f item ∷ []

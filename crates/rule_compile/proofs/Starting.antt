@@ -1,11 +1,12 @@
 -- The start: from the kernel's own rule alone to the table of the first state.
 use Rattle.std.proofs.Common.{◌≡◌, ◌≢◌, ◌==◌, ◌∷◌, [], ℕ, refl, sym, inl, inr}
 use Rattle.std.proofs.lemmas.Bool.{cases_Bool, eqb-true}
+use Rattle.policy_state.proofs.TableLevels.{table-rises, table-behind_own}
 use Rattle.prefixes.specs.declared.addr.Family.{Family}
 use Rattle.prefixes.specs.declared.addr.Family.TheVariants as family
 use Rattle.rule_law.specs.Rules as law
 use Rattle.rule_law.specs.Plans.{AreOldAndNew}
-use Rattle.kernel_model.specs.Kind.{rule_kind}
+use Rattle.rule_kinds.specs.Kind.{rule_kind}
 use Rattle.kernel_model.specs.State.{start as kernel_start, rules_of, routes_of, own_rule}
 use Rattle.fib_table.specs.Table.{routes_in}
 use Rattle.kernel_model.specs.Stands.{Stands}
@@ -13,7 +14,7 @@ use Rattle.kernel_model.specs.Switch.{IsSwitch}
 use Rattle.policy_state.specs.Table.{rule_table}
 use Rattle.policy_state.specs.View.{start}
 use Rattle.policy_state.proofs.Goodness.{good-start}
-use Rattle.rule_compile.proofs.Tables.{table-rises, table-behind_own, table-once}
+use Rattle.rule_compile.proofs.Tables.{table-once}
 
 own-stands : (f : Family) → law.Stands rule_kind (rules_of kernel_start f) (own_rule ∷ [])
 own-stands family.V4 = record { rises = (tt, tt); classes = λ rule. refl }
@@ -30,6 +31,7 @@ pub start-stands : Stands kernel_start [] []
 start-stands = record { in_family = own-stands; own_table = refl; in_table = other_tables }
 
 nothing_before : AreOldAndNew rule_kind [] (rule_table start)
+unfolding rule_table
 nothing_before = record {
   old_rises = tt;
   new_rises = table-rises start;

@@ -7,6 +7,9 @@ use Rattle.std.proofs.lemmas.List.{map-append, append-nil}
 use Rattle.std.proofs.lemmas.List.Elements.{filter_map-append}
 use Rattle.std.proofs.lemmas.List.Folds.{flat_map-map}
 use Rattle.std.proofs.lemmas.Grind.{flat_map-append}
+use Rattle.list_lemmas.proofs.Numbers.{is_there}
+use Rattle.list_lemmas.proofs.Alls.{all-at, all-from, all-mapped}
+use Rattle.policy_state.proofs.Puts.{with_link-id}
 use Rattle.fwmark.specs.Permission.{bits_of}
 use Rattle.fwmark.specs.declared.permission.Permission.{Permission}
 use Rattle.fwmark.specs.declared.permission.Permission.TheVariants as needs
@@ -20,13 +23,12 @@ use Rattle.rule_law.specs.Parts.{TurnsInto, EachPart, HaveDistinctKeys, ShowKeys
 use Rattle.rule_law.proofs.Keys.{TurnsInto-joined}
 use Rattle.rule_law.proofs.Turning.{TurnsInto-same, TurnsInto-more, TurnsInto-replaced}
 use Rattle.rule_match.specs.declared.rule.Rule.{Rule}
-use Rattle.kernel_model.specs.Kind.{rule_kind}
+use Rattle.rule_kinds.specs.Kind.{rule_kind}
 use Rattle.policy_state.specs.Step.{changed, with_net, with_link, with_route, without_route, with_permission, route_of, key_of}
 use Rattle.policy_state.specs.Table.{PhysicalLink, physical_links_of, physical_links}
 use Rattle.policy_state.specs.View.{StateView, link_named}
-use Rattle.policy_state.specs.declared.command.Command.{Command}
-use Rattle.policy_state.specs.declared.command.Command.TheVariants as command
-use Rattle.policy_state.proofs.PhysicalLinks.{all-at, all-from, all-mapped, is_there}
+use Rattle.commands.specs.declared.command.Command.{Command}
+use Rattle.commands.specs.declared.command.Command.TheVariants as command
 use Rattle.rule_compile.specs.Rows.{physical_link, rule_for, row_of_net, row_of}
 use Rattle.rule_compile.specs.declared.link_rules.Row.{Row}
 use Rattle.rule_compile.proofs.LinkRows.{alike-selectors, ForLink, for_link, filter_map-flat, leads, same_table, GoesById}
@@ -224,13 +226,6 @@ module _ (which : Row) where
         turns-by : (n : Network) (b : Bool) → TurnsInto rule_kind (row_of_net which n) (row_of_net which (if b then change n else n))
         turns-by n true = turns n
         turns-by n false = TurnsInto-same rule_kind (row_of_net which n)
-
-    with_link-id : (link : ℕ) (n : Network) → (with_link link n).id ≡ n.id
-    with_link-id link n = by (has_link n link)
-      where
-        by : (b : Bool) → (if b then n else record n { interfaces = n.interfaces ++ link ∷ [] }).id ≡ n.id
-        by true = refl
-        by false = refl
 
     stays-same : (s t : StateView) → physical_links t ≡ physical_links s → row_of which t.networks ≡ row_of which s.networks
     stays-same s t same = sym (flat-is t) ∙ (ap rules_for same ∙ flat-is s)

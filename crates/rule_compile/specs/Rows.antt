@@ -1,13 +1,13 @@
 -- The levels of the rule table that have rules for the interfaces of physical networks, and the routes that a command concerns.
 use Rattle.std.specs.Prelude.{ℕ, ◌+◌, ◌*◌, List, length, map, filter, flat_map, Option, Some, None, if◌then◌else◌}
 use Rattle.std.specs.List.{filter_map}
+use Rattle.networks.specs.Network.{is_keyed_by}
 use Rattle.fwmark.specs.declared.permission.Permission.{Permission}
 use Rattle.fwmark.specs.declared.permission.Permission.TheVariants as needs
 use Rattle.networks.specs.declared.network.Network.{Network}
 use Rattle.networks.specs.declared.network.LinkRoute.{LinkRoute}
 use Rattle.prefixes.specs.declared.route.Route.{Route}
 use Rattle.rule_match.specs.declared.rule.Rule.{Rule}
-use Rattle.policy_state.specs.Step.{is_keyed_by}
 use Rattle.policy_state.specs.Table.{link_table, PhysicalLink, physical_links_of, is_free, root_interface_rule, explicit_rule, bound_rule, implicit_rule}
 use Rattle.rule_compile.specs.declared.link_rules.Row.{Row}
 use Rattle.rule_compile.specs.declared.link_rules.Row.TheVariants as row

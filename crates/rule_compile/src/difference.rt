@@ -1,6 +1,6 @@
 ghost use Rattle.std.specs.Prelude.{◌≡◌, ◌≤◌, ◌<◌, ◌-◌, ◌++◌, IfOk, length, take, drop};
 ghost use Rattle.rule_law.specs.Plans.{beyond};
-ghost use Rattle.kernel_model.specs.Kind.{rule_kind};
+ghost use Rattle.rule_kinds.specs.Kind.{rule_kind};
 ghost use Rattle.kernel_model.specs.State.{has_rule};
 ghost use Rattle.rule_compile.specs.Middles.{AreMiddles};
 

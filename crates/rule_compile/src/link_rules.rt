@@ -13,12 +13,9 @@ ghost use Rattle.rule_compile.specs.Rows.{physical_link, rule_for, row_of_net, r
 
 use fwmark::Permission;
 use networks::{Kind, Network, Networks};
-use rule_match::{Action, Rule};
+use rule_match::{Action, LOOPBACK, Rule};
 use std::alloc::AllocError;
 use uid_ranges::{Uid, UidRange};
-
-/// The link `lo`, by which the packets come that the device made.
-pub(crate) const LOOPBACK: u16 = 1;
 
 /// The bit of a mark that selects a network explicitly.
 pub(crate) const EXPLICIT: u32 = 0x10000;

@@ -3,8 +3,7 @@ ghost use Rattle.std.specs.Prelude.{◌≡◌, ℕ, IfOk};
 ghost use Rattle.kernel_model.specs.Switch.{requests_of};
 ghost use Rattle.kernel_model.specs.declared.request.Request.TheVariants as req;
 ghost use Rattle.policy_state.specs.Table.{link_table};
-ghost use Rattle.policy_state.specs.Step.{out_of, key_of, is_keyed_by};
-ghost use Rattle.policy_state.specs.declared.command.Command.TheVariants.{RouteAdd, RouteRemove};
+ghost use Rattle.commands.specs.declared.command.Command.TheVariants.{RouteAdd, RouteRemove};
 ghost use Rattle.rule_compile.specs.Asked.{routes_come, routes_gone};
 ghost use Rattle.rule_compile.specs.Rows.{keyed_by};
 
@@ -12,46 +11,9 @@ use crate::link_rules::link_table;
 use kernel_model::Request;
 use net_names::Name;
 use networks::LinkRoute;
-use policy_state::{State, Way};
-use prefixes::{Out, Prefix, Route, same_key};
+use policy_state::{State, Way, key_of, route_of};
+use prefixes::{Prefix, Route};
 use std::alloc::{AllocError, Global};
-
-fn out_of(link: u16, way: Way) -> Out
-    ensures { result ≡ out_of link way }
-{
-    match way {
-        Way::Direct => Out::Dev {
-            link,
-            gateway: None,
-        },
-        Way::Via(gateway) => Out::Dev {
-            link,
-            gateway: Some(gateway),
-        },
-        Way::Unreachable => Out::Unreachable,
-        Way::Throw => Out::Throw,
-    }
-}
-
-fn key_of(link: u16, prefix: Prefix, special: bool) -> Route
-    ensures { result ≡ key_of link prefix special }
-{
-    let out = if special {
-        Out::Unreachable
-    } else {
-        Out::Dev {
-            link,
-            gateway: None,
-        }
-    };
-    Route { prefix, out }
-}
-
-fn is_keyed_by(route: &LinkRoute, link: u16, key: &Route) -> bool
-    ensures { result ≡ is_keyed_by link key.now route.now }
-{
-    route.link == link && same_key(&route.route, key)
-}
 
 /// What asks for a route in the table of the link.
 fn request_for(link: u16, route: Route) -> Request
@@ -75,11 +37,7 @@ pub(crate) fn route_that_comes(
 {
     let mut requests = Vec::new(alloc);
     if let Some(link) = state.link_named(name) {
-        let route = Route {
-            prefix,
-            out: out_of(link, way),
-        };
-        requests.push(request_for(link, route))?;
+        requests.push(request_for(link, route_of(link, prefix, way)))?;
     }
     Ok(requests)
 }
@@ -95,7 +53,7 @@ fn requests_by(
 {
     let mut requests = Vec::new(alloc);
     for route in routes {
-        if is_keyed_by(route, link, key) {
+        if route.is_keyed_by(link, key) {
             requests.push(request_for(link, route.route))?;
         }
     }

@@ -9,6 +9,7 @@ use policy_state::State;
 use std::alloc::{AllocError, Global};
 
 /// What a starting kernel is asked, in order, so that it stands for the first state.
+#[tactic(auto, unfolding(policy_state::specs::Table::rule_table))]
 pub fn start_plan(alloc: Global) -> Result<Plan, AllocError>
     ensures { IfOk result (λ plan. plan ≡ record { adds = twins start_rules; deletes = [] }) }
 {

@@ -1,13 +1,12 @@
 ghost use Rattle.std.specs.Prelude.{◌≡◌, ◌∷◌, [], ◌++◌, length, map, IfOk, OnOk};
-ghost use Rattle.kernel_model.specs.Kind.{rule_kind};
+ghost use Rattle.rule_kinds.specs.Kind.{rule_kind};
 ghost use Rattle.rule_law.specs.Rules.{HasEachOnce};
 ghost use Rattle.policy_state.specs.Table.{lockdown_rule, explicit_local_rule, local_rule, last_rule, rule_table};
 
-use crate::link_rules::{
-    EXPLICIT, EXPLICIT_PRIORITY, LOOPBACK, Row, SELECTION, add_row, count_for,
-};
+use crate::link_rules::{EXPLICIT, EXPLICIT_PRIORITY, Row, SELECTION, add_row, count_for};
+use networks::LOCAL_ID;
 use policy_state::State;
-use rule_match::{Action, Rule};
+use rule_match::{Action, LOOPBACK, Rule};
 use std::alloc::{AllocError, Global};
 use uid_ranges::{RangeList, UidRange};
 
@@ -16,9 +15,6 @@ const LOCAL_TABLE: u32 = 97;
 
 /// The bit of a mark that keeps a packet from VPNs and from lockdown.
 const PROTECTED: u32 = 0x20000;
-
-/// A packet's mark selects this network explicitly, by these bits and the id.
-const SELECTS_LOCAL: u32 = 0x10063;
 
 const LOCKDOWN_PRIORITY: u32 = 12500;
 
@@ -45,7 +41,7 @@ fn explicit_local_rule() -> Rule
 {
     Rule {
         priority: EXPLICIT_PRIORITY,
-        mark: SELECTS_LOCAL,
+        mark: EXPLICIT + u32::from(LOCAL_ID),
         mask: SELECTION,
         incoming: Some(LOOPBACK),
         outgoing: None,

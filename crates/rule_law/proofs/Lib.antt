@@ -16,3 +16,5 @@ pub mod Unlike
 pub mod Keys
 pub mod Beside
 pub mod Asking
+pub mod Places
+pub mod Levels

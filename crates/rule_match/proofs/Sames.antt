@@ -3,7 +3,9 @@ use Rattle.std.proofs.Common.{◌≡◌, ℕ, ◌==◌, true, Option, refl, sym,
 use Rattle.std.specs.Option.{option_eq}
 use Rattle.std.proofs.lemmas.Bool.{and_parts, and_from, eqb-true, false≢true}
 use Rattle.prefixes.specs.Addr.{same_addr}
-use Rattle.prefixes.proofs.Sames.{option_eq-true, option_eq-refl, eqb-refl, same_addr-true, same_addr-refl}
+use Rattle.list_lemmas.proofs.Numbers.{eqb-refl}
+use Rattle.list_lemmas.proofs.Options.{option_eq-true, option_eq-refl}
+use Rattle.prefixes.proofs.Sames.{same_addr-true, same_addr-refl}
 use Rattle.uid_ranges.specs.Range.{same_range}
 use Rattle.uid_ranges.proofs.Same.{same_range-true, same_range-self}
 use Rattle.uid_ranges.specs.declared.range.UidRange.{UidRange}

@@ -6,7 +6,7 @@ mod rule;
 mod same;
 mod verdict;
 
-pub use packet::Packet;
+pub use packet::{LOOPBACK, Packet};
 pub use rule::{Action, Rule};
 pub use same::{same_action, same_rule, same_selectors, same_verdict};
 pub use verdict::Verdict;

@@ -7,7 +7,7 @@ use prefixes::{Addr, Family};
 use uid_ranges::Uid;
 
 /// The link `lo`, by which the packets come that the device made.
-const LOOPBACK: u16 = 1;
+pub const LOOPBACK: u16 = 1;
 
 /// A packet that the device made, or one that came by another link and is passed on.
 #[derive(Clone, Copy, Debug, PartialEq, Eq)]

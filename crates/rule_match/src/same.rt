@@ -1,25 +1,14 @@
 // When two values are equal.
-ghost use Rattle.std.specs.Prelude.{◌≡◌, ◌↔◌, ◌==◌, IsTrue};
+ghost use Rattle.std.specs.Prelude.{◌≡◌, ◌↔◌, IsTrue};
 ghost use Rattle.std.specs.Option.{option_eq};
-ghost use Rattle.prefixes.specs.Addr.{same_addr};
 ghost use Rattle.uid_ranges.specs.Range.{same_range};
 ghost use Rattle.rule_match.specs.Rule.{same_action, same_selectors, same_rule, AreSelectorsEqual};
 ghost use Rattle.rule_match.specs.Verdict.{same_verdict};
 
 use crate::rule::{Action, Rule};
 use crate::verdict::Verdict;
-use prefixes::{Addr, same_addr};
+use prefixes::{same_gateway, same_link};
 use uid_ranges::UidRange;
-
-fn same_link(a: Option<u16>, b: Option<u16>) -> bool
-    ensures { result ≡ option_eq ◌==◌ a b }
-{
-    match (a, b) {
-        (None, None) => true,
-        (Some(a), Some(b)) => a == b,
-        (Some(_), None) | (None, Some(_)) => false,
-    }
-}
 
 fn same_uids(a: Option<UidRange>, b: Option<UidRange>) -> bool
     ensures { result ≡ option_eq same_range a b }
@@ -27,16 +16,6 @@ fn same_uids(a: Option<UidRange>, b: Option<UidRange>) -> bool
     match (a, b) {
         (None, None) => true,
         (Some(a), Some(b)) => a.is_same(&b),
-        (Some(_), None) | (None, Some(_)) => false,
-    }
-}
-
-fn same_gateway(a: Option<Addr>, b: Option<Addr>) -> bool
-    ensures { result ≡ option_eq same_addr a b }
-{
-    match (a, b) {
-        (None, None) => true,
-        (Some(a), Some(b)) => same_addr(a, b),
         (Some(_), None) | (None, Some(_)) => false,
     }
 }

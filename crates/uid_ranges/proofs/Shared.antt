@@ -1,5 +1,6 @@
 -- Ranges and lists of ranges meet exactly where they share a UID.
-use Rattle.std.proofs.Common.{◌≡◌, ◌||◌, ◌&&◌, ◌<◌, ◌≤◌, ◌⊎◌, ℕ, zero, suc, Bool, true, false, cond, List, [], ◌∷◌, Some, refl, sym, inl, inr, arith, length, nat_le, slice_get, IsSomeAnd}
+use Rattle.std.proofs.Common.{◌≡◌, ◌&&◌, ◌<◌, ◌≤◌, ℕ, zero, suc, true, cond, List, [], ◌∷◌, Some, refl, sym, inl, inr, arith, length, nat_le, slice_get, IsSomeAnd}
+use Rattle.std.proofs.lemmas.Bool.{or_cases, or_right}
 use Rattle.std.proofs.lemmas.Bool.Decides.{nat_tests}
 use Rattle.std.proofs.lemmas.List.Folds.{Any-from_list_any, list_any-from_Any}
 use Rattle.std.proofs.lemmas.Option.{slice_get_read}
@@ -19,13 +20,9 @@ shared_of-meets one other h =
 pub meets_from_shared : (one other : UidRange) (uid : ℕ) → holds one uid ≡ true → holds other uid ≡ true → meets one other ≡ true
 meets_from_shared one other uid h k = grind (arith, nat_tests)
 
-either : (a b : Bool) → (a || b) ≡ true → (a ≡ true) ⊎ (b ≡ true)
-either true b h = inl refl
-either false b h = inr h
-
 pub shared_of-self_meets : (xs : List UidRange) → self_meets xs ≡ true → TwoShareUid xs
 shared_of-self_meets [] h = cc
-shared_of-self_meets (x ∷ xs) h = elim (either (meets_any x xs) (self_meets xs) h) [
+shared_of-self_meets (x ∷ xs) h = elim (or_cases (meets_any x xs) (self_meets xs) h) [
   | inl here ↦
       let it = Any-from_list_any (meets x) xs here in
       let at : slice_get xs it.0 ≡ Some it.1 = slice_get_read xs (length xs) it.0 it.1 refl it.2 (sym it.3) in
@@ -55,11 +52,7 @@ shared_of-self_meets (x ∷ xs) h = elim (either (meets_any x xs) (self_meets xs
 meets_any_at : (x : UidRange) (xs : List UidRange) (k uid : ℕ) → holds x uid ≡ true → IsSomeAnd (slice_get xs k) (λ y. holds y uid ≡ true) → meets_any x xs ≡ true
 meets_any_at x [] k uid h there = elim there [ ]
 meets_any_at x (y ∷ ys) zero uid h there = rw (meets_from_shared x y uid h there) refl
-meets_any_at x (y ∷ ys) (suc k) uid h there = rw (meets_any_at x ys k uid h there) (last (meets x y))
-  where
-    last : (b : Bool) → (b || true) ≡ true
-    last true = refl
-    last false = refl
+meets_any_at x (y ∷ ys) (suc k) uid h there = rw (meets_any_at x ys k uid h there) (or_right (meets x y) true refl)
 
 pub self_meets_at : (xs : List UidRange) (i j uid : ℕ) → i < j → IsSomeAnd (slice_get xs i) (λ y. holds y uid ≡ true) → IsSomeAnd (slice_get xs j) (λ y. holds y uid ≡ true) → self_meets xs ≡ true
 self_meets_at [] i j uid h here there = elim here [ ]
@@ -67,11 +60,7 @@ self_meets_at (x ∷ xs) i zero uid h here there = absurd (omega arith)
 self_meets_at (x ∷ xs) zero (suc j) uid h here there = rw (meets_any_at x xs j uid here there) refl
 self_meets_at (x ∷ xs) (suc i) (suc j) uid h here there =
     let below : i < j = omega arith in
-    rw (self_meets_at xs i j uid below here there) (last (meets_any x xs))
-  where
-    last : (b : Bool) → (b || true) ≡ true
-    last true = refl
-    last false = refl
+    rw (self_meets_at xs i j uid below here there) (or_right (meets_any x xs) true refl)
 
 pub shared_of-lists_meet : (xs ys : List UidRange) → lists_meet xs ys ≡ true → ListsShareUid xs ys
 shared_of-lists_meet xs ys h =

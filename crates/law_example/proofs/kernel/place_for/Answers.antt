@@ -1,5 +1,5 @@
 use Rattle.std.proofs.Common.{◌∙◌, nat_lt, unwrap_or, length, ap}
-use Rattle.law_example.proofs.Places.{unwrap_position}
+use Rattle.list_lemmas.proofs.Positions.{unwrap_position}
 use Rattle.law_example.proofs.kernel.place_for.Goals as goal
 
 pub returns-clause-place : goal.returns-clause-place

@@ -1,6 +1,7 @@
 use Rattle.std.proofs.Common.{◌≡◌, ◌∙◌, sym, ap, is_ok, true}
 use Rattle.std.specs.List.{insert}
-use Rattle.law_example.proofs.Places.{placed-insert}
+use Rattle.rule_law.proofs.Places.{placed-insert}
+use Rattle.law_example.specs.Kinds.{rule_kind}
 use Rattle.law_example.proofs.kernel.put_in.Goals as goal
 
 pub returns : goal.returns
@@ -8,4 +9,4 @@ returns c =
     let fits : is_ok c.insert.result ≡ true = c.insert.ensures.succeeds c.requires in
     rw fits at c.insert.ensures.items
     ∙ ap (λ n. insert c.args.rules.now.items n c.args.rule) (rw c.deref.ensures.value at c.place_for-place.ensures.place)
-    ∙ sym (placed-insert c.args.rule c.args.rules.now.items)
+    ∙ sym (placed-insert rule_kind c.args.rule c.args.rules.now.items)

@@ -1,7 +1,7 @@
 use Rattle.std.proofs.Common.{◌∙◌, sym, ap}
 use Rattle.std.specs.List.{list_any}
+use Rattle.networks.specs.Network.{is_keyed_by}
 use Rattle.prefixes.specs.Route.{same_key}
-use Rattle.policy_state.specs.Step.{is_keyed_by}
 use Rattle.policy_state.proofs.RouteLists.{any-routes_by}
 use Rattle.policy_state.proofs.routes.has_key.Goals as goal
 

@@ -1,10 +1,11 @@
 use Rattle.std.proofs.Common.{◌≡◌, ◌<◌, ◌+◌, ◌++◌, ℕ, List, Some, length, take, slice_get, ap, sym, ◌∙◌, arith, append_assoc}
 use Rattle.std.specs.Option.{option_copied}
+use Rattle.list_lemmas.proofs.Places.{slice_get-past}
 use Rattle.networks.specs.declared.network.Network.{Network}
 use Rattle.rule_match.specs.declared.rule.Rule.{Rule}
 use Rattle.rule_compile.specs.Rows.{row_of, row_of_net}
 use Rattle.rule_compile.specs.declared.link_rules.Row.{Row}
-use Rattle.rule_compile.proofs.Rows.{rows-more, slice_get-past}
+use Rattle.rule_compile.proofs.Rows.{rows-more}
 use Rattle.rule_compile.proofs.link_rules.add_row.Goals as goal
 use Rattle.rule_compile.proofs.link_rules.add_row.Goals.{in-Some+in_ok-add_row_of_net, in_default}
 

@@ -3,7 +3,7 @@ use Rattle.std.proofs.lemmas.List.{append-nil}
 use Rattle.rule_law.specs.Rules.{HasEachOnce}
 use Rattle.rule_law.specs.Plans.{beyond}
 use Rattle.rule_match.specs.declared.rule.Rule.{Rule}
-use Rattle.kernel_model.specs.Kind.{rule_kind}
+use Rattle.rule_kinds.specs.Kind.{rule_kind}
 use Rattle.policy_state.specs.Table.{rule_table}
 use Rattle.kernel_model.specs.Switch.{twins, additions, deletions}
 use Rattle.rule_compile.specs.Middles.{AreMiddles}

@@ -1,12 +1,12 @@
 use Rattle.std.proofs.Common.{◌≡◌, ◌<◌, ◌+◌, ◌++◌, ◌∷◌, [], ℕ, Bool, true, false, cond, List, length, map, take, filter, get_or, refl, ap, sym, ◌∙◌}
 use Rattle.std.proofs.lemmas.List.{take_more, map-append, append-nil}
 use Rattle.std.proofs.lemmas.List.Elements.{filter-append}
+use Rattle.networks.specs.Network.{is_keyed_by}
 use Rattle.networks.specs.declared.network.LinkRoute.{LinkRoute}
 use Rattle.prefixes.specs.declared.route.Route.{Route}
 use Rattle.kernel_model.specs.Switch.{requests_of}
 use Rattle.kernel_model.specs.declared.request.Request.{Request}
 use Rattle.kernel_model.specs.declared.request.Request.TheVariants as req
-use Rattle.policy_state.specs.Step.{is_keyed_by}
 use Rattle.policy_state.specs.Table.{link_table}
 use Rattle.rule_compile.specs.Rows.{keyed_by}
 use Rattle.rule_compile.proofs.routes.requests_by.Goals as goal

@@ -1,8 +1,9 @@
 use Rattle.std.proofs.Common.{◌≡◌, ◌<◌, ◌+◌, ◌++◌, ◌∷◌, [], ℕ, List, Some, map, take, length, slice_get, ap, sym, ◌∙◌, arith, append_assoc}
+use Rattle.list_lemmas.proofs.Places.{slice_get-past}
 use Rattle.uid_ranges.specs.declared.range.UidRange.{UidRange}
 use Rattle.rule_match.specs.declared.rule.Rule.{Rule}
 use Rattle.policy_state.specs.Table.{lockdown_rule}
-use Rattle.rule_compile.proofs.Rows.{row-more, slice_get-past}
+use Rattle.rule_compile.proofs.Rows.{row-more}
 use Rattle.rule_compile.proofs.table.add_lockdown_rules.Goals as goal
 use Rattle.rule_compile.proofs.table.add_lockdown_rules.Goals.{in-Some+in_ok-push, in_default}
 

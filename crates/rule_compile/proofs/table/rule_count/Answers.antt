@@ -2,9 +2,10 @@ use Rattle.std.proofs.Common.{◌≡◌, ◌+◌, Some, length, take, slice_get,
 use Rattle.std.specs.Prelude.{sum_by}
 use Rattle.std.specs.Option.{option_copied}
 use Rattle.std.proofs.lemmas.List.{take_all}
+use Rattle.list_lemmas.proofs.Places.{slice_get-past}
 use Rattle.rule_compile.specs.Rows.{count_for}
 use Rattle.rule_compile.proofs.LinkRows.{count-table}
-use Rattle.rule_compile.proofs.Rows.{sum-more, slice_get-past}
+use Rattle.rule_compile.proofs.Rows.{sum-more}
 use Rattle.rule_compile.proofs.table.rule_count.Goals as goal
 use Rattle.rule_compile.proofs.table.rule_count.Goals.{in-Some, in_default}
 

@@ -18,6 +18,7 @@ joined root lockdown explicit bound implicit = simp append_assoc refl
 
 levels_of : (s : StateView) → row_of row.RootInterface s.networks ++ (map lockdown_rule s.lockdown ++ ((row_of row.Explicit s.networks ++ explicit_local_rule ∷ [])
     ++ (row_of row.BoundInterface s.networks ++ (local_rule ∷ (row_of row.Implicit s.networks ++ last_rule ∷ []))))) ≡ rule_table s
+unfolding rule_table
 levels_of s = rw (root-row s.networks, explicit-row s.networks, bound-row s.networks, implicit-row s.networks) refl
 
 appended : (s : StateView) (networks : List Network) (ranges : List UidRange) (explicit local last : Rule) (none a b c d e f g h : List Rule)

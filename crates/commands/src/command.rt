@@ -1,5 +1,5 @@
 ghost use Rattle.std.specs.Prelude.{◌<◌};
-ghost use Rattle.policy_state.specs.Step.{FitsTypes};
+ghost use Rattle.commands.specs.Commands.{FitsTypes};
 
 use fwmark::Permission;
 use net_names::Name;

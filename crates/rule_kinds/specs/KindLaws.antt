@@ -1,7 +1,7 @@
 -- Two rules of equal priority and equal selectors.
 use Rattle.std.specs.Prelude.{◌≡◌, ◌==◌, ◌&&◌, Bool, true, refl}
 use Rattle.std.proofs.lemmas.Bool.{and_parts, and_from, eqb-true}
-use Rattle.prefixes.proofs.Sames.{eqb-refl}
+use Rattle.list_lemmas.proofs.Numbers.{eqb-refl}
 use Rattle.rule_match.specs.Rule.{same_selectors}
 use Rattle.rule_match.specs.declared.rule.Rule.{Rule}
 use Rattle.rule_match.proofs.Sames.{same_selectors-true, same_selectors-refl}

@@ -3,7 +3,7 @@ use Rattle.rule_law.specs.Rules.{Kind}
 use Rattle.rule_match.specs.Rule.{same_rule}
 use Rattle.rule_match.specs.declared.rule.Rule.{Rule}
 use Rattle.rule_match.proofs.Sames.{same_rule-true, same_rule-refl}
-use Rattle.kernel_model.specs.KindLaws.{alike, alike_self, alike_both, alike_priority}
+use Rattle.rule_kinds.specs.KindLaws.{alike, alike_self, alike_both, alike_priority}
 
 abbrev pub rule_kind : Kind Rule
 rule_kind = record {

@@ -1,0 +1,6 @@
+pub mod Alls
+pub mod Anys
+pub mod Places
+pub mod Positions
+pub mod Numbers
+pub mod Options
