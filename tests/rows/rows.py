@@ -1,46 +1,58 @@
 """Runs the rows against a program. See the file 'run' beside this one."""
 import fnmatch
+import os
 import pathlib
 import subprocess
 import sys
 
+from case import Case
+from limits import limit_cases
+from made import made_cases
+from texts import USAGE, text_cases
+
 HERE = pathlib.Path(__file__).parent
-INPUT_LIMIT = 16_777_216
 
 
 def stored_cases():
     """Each folder of cases: args (one word a line), stdin, stdout and status."""
     for case in sorted((HERE / "cases").iterdir()):
-        words = (case / "args").read_text().split("\n")[:-1]
+        words = tuple((case / "args").read_text().split("\n")[:-1])
         status = int((case / "status").read_text())
-        yield case.name, words, (case / "stdin").read_bytes(), (case / "stdout").read_bytes(), status
+        yield Case(case.name, (case / "stdin").read_bytes(), (case / "stdout").read_bytes(), status, words)
 
 
-def made_cases():
-    """Inputs as large as an input may be, one byte larger, and one that fills the journal."""
-    yield "line-feeds-at-the-limit", ["run"], b"\n" * INPUT_LIMIT, b"", 0
-    yield "line-feeds-past-the-limit", ["run"], b"\n" * (INPUT_LIMIT + 1), b"", 9
-    yield "journal-at-the-limit", ["run"], *full_journal(), 0
+def edge_cases():
+    """The program's edge: input that can't be read, and output that takes nothing."""
+    line = b"lockdown add 0-9\n"
+    yield Case("input-is-a-folder", status=4, source="/")
+    yield Case("input-closed", status=4, source="closed")
+    yield Case("output-full", line, status=5, sink="/dev/full")
+    yield Case("output-closed", line, status=5, sink="closed")
+    yield Case("output-full-for-the-usage", status=5, words=(), sink="/dev/full")
+    yield Case("output-full-of-nothing", status=0, sink="/dev/full")
+    yield Case("input-is-a-folder-for-the-usage", b"", USAGE, 2, (), source="/")
 
 
-def full_journal():
-    """A range is locked down and set free until the journal has 999,998 entries: another two might have to be undone."""
-    lines = [b"lockdown add 0-9", b"lockdown remove 0-9"] * 249_998
-    said = [b"%d: done" % number for number in range(1, len(lines) + 1)]
-    lines += [b"lockdown add 0-9", b"lockdown remove 0-9", b"packet 5 0x0 8.8.8.8"]
-    said += [b"499997: refused ENOSPC", b"499998: refused ENOENT", b"499999: mark 0x0 unreachable"]
-    said += [b"  0 lookup 255", b"  17000 lookup 97", b"  32000 unreachable"]
-    return b"\n".join(lines) + b"\n", b"\n".join(said) + b"\n"
+def closing(*descriptors):
+    return lambda: [os.close(descriptor) for descriptor in descriptors]
 
 
-def halted_cases():
-    """A network's permission is changed while each of the sixteen deletions breaks in turn: requests 35 to 50."""
-    case = HERE / "cases" / "permission-carried"
-    stdin, stdout = (case / "stdin").read_bytes(), (case / "stdout").read_bytes()
-    before = stdout[: stdout.index(b"7: done\n")]
-    for broken in range(1, 17):
-        said = before + b"7: halted at request %d\n" % (34 + broken)
-        yield "permission-halted-%d" % broken, ["run", "--break", str(broken)], stdin, said, 7
+def run(program, case):
+    """Runs the program on the row's streams: a pipe, a path in its place, or nothing where it is closed."""
+    source = subprocess.PIPE if case.source == "pipe" else os.open(os.devnull if case.source == "closed" else case.source, os.O_RDONLY)
+    sink = subprocess.PIPE if case.sink == "pipe" else os.open(os.devnull if case.sink == "closed" else case.sink, os.O_WRONLY)
+    closed = [number for number, stream in ((0, case.source), (1, case.sink)) if stream == "closed"]
+    try:
+        process = subprocess.Popen(
+            [program, *case.words], stdin=source, stdout=sink, stderr=subprocess.PIPE, preexec_fn=closing(*closed)
+        )
+        given = case.stdin if case.source == "pipe" else None
+        stdout, stderr = process.communicate(given, timeout=120)
+        return stdout or b"", stderr, process.returncode
+    finally:
+        for stream in (source, sink):
+            if stream != subprocess.PIPE:
+                os.close(stream)
 
 
 def first_difference(got, want):
@@ -52,23 +64,23 @@ def first_difference(got, want):
     return "no difference in the output"
 
 
-def passes(program, name, words, stdin, stdout, status):
-    got = subprocess.run([program, *words], input=stdin, capture_output=True, timeout=120)
-    if got.stdout == stdout and got.returncode == status and got.stderr == b"":
+def passes(program, case):
+    stdout, stderr, status = run(program, case)
+    if (stdout, stderr, status) == (case.stdout, b"", case.status):
         return True
-    print("%s: status %d (want %d), %s" % (name, got.returncode, status, first_difference(got.stdout, stdout)))
-    if got.stderr:
-        print("  standard error: %r" % got.stderr[:200])
+    print("%s: status %d (want %d), %s" % (case.name, status, case.status, first_difference(stdout, case.stdout)))
+    if stderr:
+        print("  standard error: %r" % stderr[:200])
     return False
 
 
 def main():
     program, patterns = sys.argv[1], sys.argv[2:] or ["*"]
     passed = failed = 0
-    for case in [*stored_cases(), *halted_cases(), *made_cases()]:
-        if not any(fnmatch.fnmatch(case[0], pattern) for pattern in patterns):
+    for case in [*stored_cases(), *made_cases(), *text_cases(), *limit_cases(), *edge_cases()]:
+        if not any(fnmatch.fnmatch(case.name, pattern) for pattern in patterns):
             continue
-        if passes(program, *case):
+        if passes(program, case):
             passed += 1
         else:
             failed += 1

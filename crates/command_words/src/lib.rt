@@ -16,6 +16,3 @@ pub use form::Form;
 pub use laws::one_form;
 pub use read::read_words;
 pub use usage_text::usage;
-
-#[cfg(test)]
-mod tests;

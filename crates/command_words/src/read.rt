@@ -1,5 +1,6 @@
-ghost use Rattle.std.specs.Prelude.{◌≡◌, Err, IfOk, map, string_bytes};
+ghost use Rattle.std.specs.Prelude.{◌≡◌, IsTrue, Err, IfOk, map, string_bytes};
 ghost use Rattle.command_words.specs.Forms.{FormView, IsForm};
+ghost use Rattle.command_words.specs.Refused.{has_refused};
 ghost use Rattle.command_words.specs.View.{view_of};
 
 use crate::command::netd_command;
@@ -10,11 +11,14 @@ use crate::refused::has_refused;
 use clap::error::ErrorKind;
 use std::alloc::{AllocError, Global};
 
-/// The form that the words behind the program's name have.
+/// The form that the words after the program's name have.
 pub fn read_words(alloc: Global, words: &[String]) -> Result<Form, WordsFault>
     ensures ok { IfOk result (λ form. IsForm (map string_bytes words.now) (view_of form)) }
     ensures no_form { result ≡ Err WordsFault.NoForm →
         (form : FormView) → IsForm (map string_bytes words.now) form → ⊥ }
+
+    // such a word is answered without memory, whatever stands around it
+    ensures refused { IsTrue (has_refused (map string_bytes words.now)) → result ≡ Err WordsFault.NoForm }
 {
     if has_refused(words) {
         return Err(WordsFault::NoForm);

@@ -19,7 +19,7 @@ use Rattle.kernel_model.specs.declared.request.Entry.{Entry}
 use Rattle.policy_state.specs.Step.{FitsTypes, refusal, changed}
 use Rattle.policy_state.specs.Table.{rule_table, route_list}
 use Rattle.policy_state.specs.View.{StateView}
-use Rattle.policy_state.specs.declared.command.Command.{Command}
+use Rattle.commands.specs.declared.command.Command.{Command}
 use Rattle.rule_compile.specs.Asked.{asked, carried, MayStep}
 use Rattle.plan_exec.specs.Carries.{Carries}
 use Rattle.plan_exec.specs.declared.Carried.TheVariants.{Done, Halted}

@@ -18,7 +18,7 @@ use Rattle.net_control.specs.declared.controller.Answer.TheVariants as answer
 use Rattle.net_control.specs.declared.controller.StartFault.{StartFault}
 use Rattle.net_control.specs.declared.controller.StartFault.TheVariants as fault
 use Rattle.net_names.specs.declared.code.Code.{Code}
-use Rattle.policy_state.specs.declared.command.Command.{Command}
+use Rattle.commands.specs.declared.command.Command.{Command}
 
 -- how many more were refused, and broke
 refusals_are : (old new : KernelView) (es known : List Entry) → new ≡ grown old es → filter is_refused es ≡ known → refusals_of new ≡ refusals_of old + length known

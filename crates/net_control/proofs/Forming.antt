@@ -15,7 +15,7 @@ use Rattle.net_control.specs.declared.controller.StartFault.TheVariants as fault
 use Rattle.net_control.specs.declared.controller.Answer.{Answer}
 use Rattle.net_control.specs.declared.controller.Answer.TheVariants as answer
 use Rattle.policy_state.specs.Table.{explicit_local_rule, local_rule, last_rule}
-use Rattle.policy_state.specs.declared.command.Command.{Command}
+use Rattle.commands.specs.declared.command.Command.{Command}
 
 grew-formed : (before after : KernelView) (es : List Entry) → after ≡ grown before es → AreWellFormed es → AreWellFormed before.journal → AreWellFormed after.journal
 grew-formed before after es grew formed so_far =

@@ -23,7 +23,7 @@ use Rattle.policy_meaning.specs.Promise.{StaysIn}
 use Rattle.policy_state.specs.Step.{changed, refusal}
 use Rattle.policy_state.specs.Table.{rule_table, route_list}
 use Rattle.policy_state.specs.View.{StateView, IsGood, start}
-use Rattle.policy_state.specs.declared.command.Command.{Command}
+use Rattle.commands.specs.declared.command.Command.{Command}
 use Rattle.rule_law.specs.Plans.{GoesOverAndBack}
 use Rattle.rule_match.specs.declared.packet.Packet.{Packet}
 use Rattle.rule_match.specs.declared.verdict.Verdict.{Verdict}

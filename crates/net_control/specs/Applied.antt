@@ -8,7 +8,7 @@ use Rattle.kernel_model.specs.declared.request.Entry.{Entry}
 use Rattle.kernel_model.specs.declared.request.Request.{Request}
 use Rattle.policy_state.specs.Step.{refusal, changed}
 use Rattle.policy_state.specs.View.{StateView}
-use Rattle.policy_state.specs.declared.command.Command.{Command}
+use Rattle.commands.specs.declared.command.Command.{Command}
 use Rattle.rule_compile.specs.Asked.{asked_adds, asked_deletes}
 use Rattle.net_control.specs.Limit.{journal_limit}
 use Rattle.net_control.specs.View.{ControllerView, running}

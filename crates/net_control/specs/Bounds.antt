@@ -2,7 +2,7 @@
 use Rattle.std.specs.Prelude.{◌+◌, ◌≤◌, length}
 use Rattle.kernel_model.specs.View.{KernelView}
 use Rattle.policy_state.specs.View.{StateView}
-use Rattle.policy_state.specs.declared.command.Command.{Command}
+use Rattle.commands.specs.declared.command.Command.{Command}
 use Rattle.net_control.specs.Applied.{most_requests}
 use Rattle.net_control.specs.Limit.{journal_limit}
 

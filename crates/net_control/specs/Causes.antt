@@ -2,7 +2,7 @@
 use Rattle.std.specs.Prelude.{◌≡◌, ◌≢◌, ◌⊎◌, ◌↔◌, ℕ, ◌<◌, Some, None, Result, Err, IsOk, IsSome}
 use Rattle.net_names.specs.declared.code.Code.{Code}
 use Rattle.kernel_model.specs.View.{KernelView, refusals_of, breaks_of}
-use Rattle.policy_state.specs.declared.command.Command.{Command}
+use Rattle.commands.specs.declared.command.Command.{Command}
 use Rattle.net_control.specs.Applied.{IsTaken, code_of}
 use Rattle.net_control.specs.View.{ControllerView}
 use Rattle.net_control.specs.declared.controller.Answer.{Answer}

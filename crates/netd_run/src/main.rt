@@ -4,20 +4,30 @@
 use net_io::{StdSink, StdSource};
 use netd_top::run;
 use sim_kernel::SimKernel;
+use std::alloc::{AllocError, Global};
+use std::env::Args;
+use std::io::ErrorKind;
 use std::process::ExitCode;
 use std::{env, io};
 
-/// The exit status where memory was wanting.
+/// The exit status where the program is out of memory.
 const NO_MEMORY: u8 = 6;
+
+/// The words after the program's name. Where one of them isn't UTF-8 they are in no form, as no words are: then none are given.
+fn words_in(alloc: Global, args: io::Result<Args>) -> Result<Vec<String>, AllocError> {
+    match args {
+        Ok(args) => args.skip(1).collect(alloc),
+        Err(error) => match error.kind() {
+            ErrorKind::OutOfMemory => Err(AllocError),
+            _ => Ok(Vec::new(alloc)),
+        },
+    }
+}
 
 fn main(rt: HostRuntime) -> ExitCode {
     let alloc = rt.alloc();
-    let words = match env::args(&rt) {
-        Err(_) => return ExitCode::from(NO_MEMORY),
-        Ok(args) => match args.skip(1).collect::<Vec<String>>(alloc) {
-            Err(_) => return ExitCode::from(NO_MEMORY),
-            Ok(words) => words,
-        },
+    let Ok(words) = words_in(alloc, env::args(&rt)) else {
+        return ExitCode::from(NO_MEMORY);
     };
     let Ok(mut kernel) = SimKernel::new(alloc, Vec::new(alloc), Vec::new(alloc)) else {
         return ExitCode::from(NO_MEMORY);

@@ -31,7 +31,7 @@ use Rattle.policy_meaning.specs.Policy.{IsBarred, policy}
 use Rattle.policy_meaning.specs.Promise.{StaysIn}
 use Rattle.policy_state.specs.Step.{changed}
 use Rattle.policy_state.specs.View.{StateView, start}
-use Rattle.policy_state.specs.declared.command.Command.{Command}
+use Rattle.commands.specs.declared.command.Command.{Command}
 use Rattle.rule_law.specs.Plans.{GoesOver, GoesOverAndBack}
 use Rattle.fwmark.specs.Mark.{is_protected}
 use Rattle.rule_match.specs.Packet.{is_made}

@@ -13,7 +13,7 @@ use Rattle.net_names.specs.declared.code.Code.TheVariants as code
 use Rattle.policy_meaning.specs.Policy.{policy}
 use Rattle.policy_state.specs.Step.{changed}
 use Rattle.policy_state.specs.View.{link_named}
-use Rattle.policy_state.specs.declared.command.Command.{Command}
+use Rattle.commands.specs.declared.command.Command.{Command}
 use Rattle.net_control.specs.Applied.{IsAnswered}
 use Rattle.net_control.specs.Bounds.{KeepsLimit}
 use Rattle.net_control.specs.Causes.{HasCause}

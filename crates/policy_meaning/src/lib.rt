@@ -7,6 +7,3 @@ mod laws;
 
 pub use decision::decide;
 pub use laws::{barred_stays_in, own_rule_means_start, table_means_policy};
-
-#[cfg(test)]
-mod tests;

@@ -25,9 +25,9 @@ use Rattle.uid_ranges.specs.declared.range.UidRange.{UidRange}
 use Rattle.uid_ranges.proofs.Disjoint.{AreDisjoint-append, AreDisjoint-filter}
 use Rattle.policy_state.specs.View.{StateView, IsGood, IsPhysical, AreNetworks, start, link_named, most_interfaces, most_routes, most_networks, most_links}
 use Rattle.policy_state.specs.Step.{refusal, changed, reasons, FitsTypes, with_net, with_link, with_route, without_route, with_permission, route_of, key_of, is_in, is_in_any, is_full, routes_at, is_physical, changed_by_link}
-use Rattle.policy_state.specs.declared.command.Command.{Command}
-use Rattle.policy_state.specs.declared.command.Command.TheVariants as command
-use Rattle.policy_state.specs.declared.command.Way.{Way}
+use Rattle.commands.specs.declared.command.Command.{Command}
+use Rattle.commands.specs.declared.command.Command.TheVariants as command
+use Rattle.commands.specs.declared.command.Way.{Way}
 use Rattle.policy_state.proofs.LinkLists.{links-add, links-remove, index_kept, may_be_interface}
 use Rattle.policy_state.proofs.Nets.{Standing, standing, all_links, with_change, links_around, linked_nowhere, not_local-linked, is_physical_there, good_networks-changed, good_networks-same_links}
 use Rattle.policy_state.proofs.Accepted.{none_holds, of_link-at, changed_by_link-at, is_in-at, is_full-at, routes_at-at, is_physical-at, Routed, routed}

@@ -10,7 +10,7 @@ use Rattle.networks.specs.declared.network.Kind.TheVariants as kind
 use Rattle.networks.specs.declared.network.Network.{Network}
 use Rattle.policy_state.specs.Step.{refusal, reasons, changed, changed_by_link, with_net, with_link}
 use Rattle.policy_state.specs.View.{StateView, IsGood, link_named}
-use Rattle.policy_state.specs.declared.command.Command.TheVariants as command
+use Rattle.commands.specs.declared.command.Command.TheVariants as command
 use Rattle.policy_state.proofs.Accepted.{none_holds, changed_by_link-at}
 use Rattle.policy_state.proofs.Nets.{with_change, untouched}
 

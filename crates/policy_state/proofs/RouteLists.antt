@@ -17,8 +17,8 @@ use Rattle.prefixes.specs.declared.prefix.Prefix.{Prefix}
 use Rattle.prefixes.specs.declared.route.Route.{Route}
 use Rattle.policy_state.specs.View.{IsPhysical, LeadsOut, most_routes}
 use Rattle.policy_state.specs.Step.{with_route, without_route, route_of, is_way_of_other_family}
-use Rattle.policy_state.specs.declared.command.Way.{Way}
-use Rattle.policy_state.specs.declared.command.Way.TheVariants as way
+use Rattle.commands.specs.declared.command.Way.{Way}
+use Rattle.commands.specs.declared.command.Way.TheVariants as way
 
 routes_by-push : (l : ℕ) (rs : List LinkRoute) (r : LinkRoute) → routes_by l (rs ++ r ∷ []) ≡ routes_by l rs ++ cond (r.link == l) (r.route ∷ []) []
 routes_by-push l rs r =

@@ -1,5 +1,5 @@
 -- Which commands are refused, and what the others change, after netd's RouteController and NetworkController.
-use Rattle.std.specs.Prelude.{◌∷◌, [], ◌++◌, ◌&&◌, ◌||◌, ◌==◌, ◌<◌, ℕ, Bool, true, false, List, Option, Some, None, length, nat_le, nat_lt, not, filter, map, is_none, is_some, codes, if◌then◌else◌}
+use Rattle.std.specs.Prelude.{◌∷◌, [], ◌++◌, ◌&&◌, ◌||◌, ◌==◌, ℕ, Bool, true, false, List, Option, Some, None, length, nat_le, nat_lt, not, filter, map, is_none, is_some, codes, if◌then◌else◌}
 use Rattle.std.specs.List.{list_any}
 use Rattle.std.specs.Str.{bytes_eq}
 use Rattle.fib_table.specs.Table.{has_key}
@@ -17,10 +17,11 @@ use Rattle.prefixes.specs.declared.prefix.Prefix.{Prefix}
 use Rattle.prefixes.specs.declared.route.Route.{Route}
 use Rattle.uid_ranges.specs.Ranges.{has, lists_meet, without}
 use Rattle.policy_state.specs.View.{StateView, link_named, most_links, most_networks, most_interfaces, most_routes, most_lockdown_ranges}
-use Rattle.policy_state.specs.declared.command.Command.{Command}
-use Rattle.policy_state.specs.declared.command.Command.TheVariants as command
-use Rattle.policy_state.specs.declared.command.Way.{Way}
-use Rattle.policy_state.specs.declared.command.Way.TheVariants as way
+pub use Rattle.commands.specs.Commands.{FitsTypes}
+use Rattle.commands.specs.declared.command.Command.{Command}
+use Rattle.commands.specs.declared.command.Command.TheVariants as command
+use Rattle.commands.specs.declared.command.Way.{Way}
+use Rattle.commands.specs.declared.command.Way.TheVariants as way
 
 -- a reason to refuse a command, and the code that says so
 pub record Reason : Type 0 where
@@ -138,12 +139,6 @@ reasons s (command.LockdownRemove range) = because code.NoEntry (not (has s.lock
 -- the code of the first reason that holds, or none where the command is accepted
 abbrev pub refusal : StateView → Command → Option Code
 refusal s c = first_that_holds (reasons s c)
-
--- The numbers that a command puts into a state are those of a `u16`, as every command has them. Goodness keeps them below 65536.
-abbrev pub FitsTypes : Command → Type 0
-FitsTypes (command.LinkAdd name index) = index < 65536
-FitsTypes (command.CreatePhysical net permission) = net < 65536
-FitsTypes _ = Unit {0}
 
 -- the network of this id changed, and no other
 abbrev pub with_net : ℕ → (Network → Network) → StateView → StateView

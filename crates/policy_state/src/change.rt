@@ -5,10 +5,10 @@ ghost use Rattle.networks.specs.Lists.{put_net};
 ghost use Rattle.policy_state.specs.Step as step;
 ghost use Rattle.policy_state.specs.View.{IsGood};
 
-use crate::command::{Command, Way};
 use crate::link::Link;
 use crate::routes::{key_of, route_of};
 use crate::state::State;
+use commands::{Command, Way};
 use fwmark::Permission;
 use net_names::Name;
 use networks::{Kind, LinkRoute, LinkRoutes, Links, Network, Networks};

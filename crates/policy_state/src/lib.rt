@@ -2,7 +2,6 @@
 #![tactic(auto)]
 
 mod change;
-mod command;
 mod fault;
 mod laws;
 mod link;
@@ -11,12 +10,9 @@ mod routes;
 mod state;
 mod step;
 
-pub use command::{Command, Way};
+pub use commands::{Command, Way};
 pub use fault::StepFault;
 pub use laws::table_rises;
 pub use link::Link;
 pub use routes::{key_of, route_of};
 pub use state::State;
-
-#[cfg(test)]
-mod tests;

@@ -7,9 +7,9 @@ ghost use Rattle.networks.specs.Lists.{find_id};
 ghost use Rattle.policy_state.specs.Step as step;
 ghost use Rattle.policy_state.specs.View.{link_named};
 
-use crate::command::{Command, Way};
 use crate::routes::{count_of, has_key, is_way_of_other_family, key_of, route_of};
 use crate::state::State;
+use commands::{Command, Way};
 use net_names::{Code, Name};
 use networks::{Kind, LOCAL_ID, Network};
 use prefixes::Prefix;

@@ -5,7 +5,7 @@ ghost use Rattle.fib_table.specs.Table.{has_key};
 ghost use Rattle.networks.specs.Network.{is_keyed_by, routes_by};
 ghost use Rattle.policy_state.specs.Step as step;
 
-use crate::command::Way;
+use commands::Way;
 use networks::{LinkRoute, Network};
 use prefixes::{Out, Prefix, Route, same_family};
 

@@ -3,9 +3,9 @@ ghost use Rattle.std.specs.Prelude.{◌≡◌, ◌↔◌, None, Some, Err, IfOk,
 ghost use Rattle.policy_state.specs.View.{IsGood};
 ghost use Rattle.policy_state.specs.Step.{refusal, changed};
 
-use crate::command::Command;
 use crate::fault::StepFault;
 use crate::state::State;
+use commands::Command;
 use net_names::Code;
 
 impl State {

@@ -19,7 +19,7 @@ use Rattle.kernel_model.proofs.Switches.{done_goes_over, undone_goes_back, undon
 use Rattle.policy_state.specs.Step.{changed}
 use Rattle.policy_state.specs.Table.{rule_table, route_list}
 use Rattle.policy_state.specs.View.{StateView}
-use Rattle.policy_state.specs.declared.command.Command.{Command}
+use Rattle.commands.specs.declared.command.Command.{Command}
 use Rattle.policy_state.proofs.Goodness.{good-changed}
 use Rattle.rule_compile.specs.Asked.{asked_adds, asked_deletes, carried, MayStep}
 use Rattle.rule_compile.proofs.Asks.{Asks, Rules, Comes, Goes as GivesUp, asks}

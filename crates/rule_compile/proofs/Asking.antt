@@ -29,8 +29,8 @@ use Rattle.list_lemmas.proofs.Alls.{all-append, all-reverse}
 use Rattle.policy_state.specs.Step.{changed, route_of}
 use Rattle.policy_state.specs.Table.{rule_table, link_table}
 use Rattle.policy_state.specs.View.{StateView, link_named}
-use Rattle.policy_state.specs.declared.command.Command.{Command}
-use Rattle.policy_state.specs.declared.command.Command.TheVariants as command
+use Rattle.commands.specs.declared.command.Command.{Command}
+use Rattle.commands.specs.declared.command.Command.TheVariants as command
 use Rattle.policy_state.proofs.Goodness.{good-changed}
 use Rattle.rule_compile.specs.Asked.{routes_come, asked_adds, asked_deletes, MayStep}
 use Rattle.rule_compile.proofs.Asks.{Asks, Rules, Comes, Goes, asked-come}

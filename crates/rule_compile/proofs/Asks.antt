@@ -29,9 +29,9 @@ use Rattle.list_lemmas.proofs.Alls.{all-append_parts, all-from}
 use Rattle.policy_state.specs.Step.{refusal, reasons, changed, with_net, with_link, with_route, without_route, with_permission, route_of, key_of, routes_at}
 use Rattle.policy_state.specs.Table.{rule_table, route_list, link_table, physical_links, routes_of_net}
 use Rattle.policy_state.specs.View.{StateView, IsGood, IsPhysical, link_named}
-use Rattle.policy_state.specs.declared.command.Command.{Command}
-use Rattle.policy_state.specs.declared.command.Command.TheVariants as command
-use Rattle.policy_state.specs.declared.command.Way.{Way}
+use Rattle.commands.specs.declared.command.Command.{Command}
+use Rattle.commands.specs.declared.command.Command.TheVariants as command
+use Rattle.commands.specs.declared.command.Way.{Way}
 use Rattle.policy_state.proofs.Accepted.{none_holds, of_link-at, changed_by_link-at, routes_at-at, Routed, routed}
 use Rattle.policy_state.proofs.Nets.{Standing, standing, all_links, with_change, not_local-linked, is_physical_there}
 use Rattle.policy_state.proofs.PhysicalLinks.{network_at}

@@ -25,7 +25,7 @@ use Rattle.list_lemmas.proofs.Alls.{all-append, all-append_parts, all-reverse, a
 use Rattle.policy_state.specs.Step.{changed}
 use Rattle.policy_state.specs.Table.{PhysicalLink, physical_links, is_free, Level, RootInterface, Lockdown, Explicit, BoundInterface, LocalNetwork, Implicit, Last, rules_at, rule_table, route_list, routes_of_net, table_of, root_interface_rule, lockdown_rule, explicit_rule, explicit_local_rule, bound_rule, local_rule, implicit_rule, last_rule}
 use Rattle.policy_state.specs.View.{StateView, IsGood, IsPhysical, LeadsOut}
-use Rattle.policy_state.specs.declared.command.Command.{Command}
+use Rattle.commands.specs.declared.command.Command.{Command}
 use Rattle.policy_state.proofs.Levels.{AtLevel, InRow, in_row, in_row_or_last, is_among, is_only, table-level}
 use Rattle.policy_state.proofs.PhysicalLinks.{links-are, network_at}
 use Rattle.rule_compile.specs.Asked.{asked_adds, asked_deletes}

@@ -24,7 +24,7 @@ use Rattle.rule_kinds.specs.KindLaws.{alike, alike_self}
 use Rattle.policy_state.specs.View.{StateView, IsGood}
 use Rattle.policy_state.specs.Step.{FitsTypes, refusal, changed}
 use Rattle.policy_state.specs.Table.{Level, RootInterface, Lockdown, Explicit, BoundInterface, LocalNetwork, Implicit, Last, rules_at, lockdown_rule, explicit_local_rule, PhysicalLink, physical_links, link_table, local_table}
-use Rattle.policy_state.specs.declared.command.Command.{Command}
+use Rattle.commands.specs.declared.command.Command.{Command}
 use Rattle.policy_state.proofs.Goodness.{good-changed}
 use Rattle.policy_state.proofs.Levels.{InRow, in_row, is_only, one_place, id-from, id-below}
 use Rattle.policy_state.proofs.PhysicalLinks.{IsLinkIn, link_in, links-are, network_at}

@@ -16,7 +16,7 @@ use Rattle.kernel_model.proofs.Levels.{givers-alike}
 use Rattle.policy_state.specs.View.{StateView, IsGood}
 use Rattle.policy_state.specs.Step.{FitsTypes, refusal, changed}
 use Rattle.policy_state.specs.Table.{Level, levels, priority_of, rules_at, rule_table}
-use Rattle.policy_state.specs.declared.command.Command.{Command}
+use Rattle.commands.specs.declared.command.Command.{Command}
 use Rattle.policy_state.proofs.Goodness.{good-changed}
 use Rattle.policy_state.proofs.Levels.{table-alike}
 use Rattle.rule_compile.specs.Asked.{MayStep}

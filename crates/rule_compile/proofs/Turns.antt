@@ -27,8 +27,8 @@ use Rattle.rule_kinds.specs.Kind.{rule_kind}
 use Rattle.policy_state.specs.Step.{changed, with_net, with_link, with_route, without_route, with_permission, route_of, key_of}
 use Rattle.policy_state.specs.Table.{PhysicalLink, physical_links_of, physical_links}
 use Rattle.policy_state.specs.View.{StateView, link_named}
-use Rattle.policy_state.specs.declared.command.Command.{Command}
-use Rattle.policy_state.specs.declared.command.Command.TheVariants as command
+use Rattle.commands.specs.declared.command.Command.{Command}
+use Rattle.commands.specs.declared.command.Command.TheVariants as command
 use Rattle.rule_compile.specs.Rows.{physical_link, rule_for, row_of_net, row_of}
 use Rattle.rule_compile.specs.declared.link_rules.Row.{Row}
 use Rattle.rule_compile.proofs.LinkRows.{alike-selectors, ForLink, for_link, filter_map-flat, leads, same_table, GoesById}

@@ -11,8 +11,8 @@ use Rattle.kernel_model.specs.declared.request.Request.{Request}
 use Rattle.policy_state.specs.Step.{FitsTypes, refusal, changed, route_of, key_of, routes_at}
 use Rattle.policy_state.specs.Table.{rule_table, route_list, link_table}
 use Rattle.policy_state.specs.View.{StateView, IsGood, start, link_named}
-use Rattle.policy_state.specs.declared.command.Command.{Command}
-use Rattle.policy_state.specs.declared.command.Command.TheVariants as command
+use Rattle.commands.specs.declared.command.Command.{Command}
+use Rattle.commands.specs.declared.command.Command.TheVariants as command
 use Rattle.prefixes.specs.Route.{same_key}
 
 -- the route that a command adds, with the number of its table

@@ -18,7 +18,7 @@ ghost use Rattle.prefixes.specs.declared.route.Route.{Route};
 ghost use Rattle.policy_state.specs.Step.{changed};
 ghost use Rattle.policy_state.specs.Table.{rule_table, start_rules, route_list};
 ghost use Rattle.policy_state.specs.View.{StateView, IsGood, start};
-ghost use Rattle.policy_state.specs.declared.command.Command.{Command};
+ghost use Rattle.commands.specs.declared.command.Command.{Command};
 ghost use Rattle.rule_compile.specs.Asked.{asked_adds, asked_deletes, carried, started, MayStep};
 ghost use Rattle.rule_law.specs.Plans.{GoesOver, GoesOverAndBack};
 ghost use Rattle.rule_match.specs.declared.packet.Packet.{Packet};

@@ -14,6 +14,3 @@ pub use laws::{plan_ends, plan_law, requests_can_be_asked, start_law, tables_are
 pub use requests::plan;
 pub use start::start_plan;
 pub use table::{rule_count, rules};
-
-#[cfg(test)]
-mod tests;

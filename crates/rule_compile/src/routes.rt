@@ -3,7 +3,7 @@ ghost use Rattle.std.specs.Prelude.{◌≡◌, ℕ, IfOk};
 ghost use Rattle.kernel_model.specs.Switch.{requests_of};
 ghost use Rattle.kernel_model.specs.declared.request.Request.TheVariants as req;
 ghost use Rattle.policy_state.specs.Table.{link_table};
-ghost use Rattle.policy_state.specs.declared.command.Command.TheVariants.{RouteAdd, RouteRemove};
+ghost use Rattle.commands.specs.declared.command.Command.TheVariants.{RouteAdd, RouteRemove};
 ghost use Rattle.rule_compile.specs.Asked.{routes_come, routes_gone};
 ghost use Rattle.rule_compile.specs.Rows.{keyed_by};
 

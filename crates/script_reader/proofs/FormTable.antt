@@ -1,8 +1,8 @@
 -- The forms of lines, and the lines that are of each form.
 use Rattle.std.proofs.Common.{◌≡◌, ◌↔◌, ◌⊎◌, inl, inr, ℕ, true, false, List, [], ◌∷◌, refl, slice_get, None, Some}
-use Rattle.policy_state.specs.declared.command.Command.{Command}
-use Rattle.policy_state.specs.declared.command.Command.TheVariants as command
-use Rattle.policy_state.specs.declared.command.Way.TheVariants as way
+use Rattle.commands.specs.declared.command.Command.{Command}
+use Rattle.commands.specs.declared.command.Command.TheVariants as command
+use Rattle.commands.specs.declared.command.Way.TheVariants as way
 use Rattle.prefixes.specs.declared.addr.Family.TheVariants as family
 use Rattle.script_reader.specs.declared.form.Form.{Form}
 use Rattle.script_reader.specs.declared.form.Form.TheVariants as form

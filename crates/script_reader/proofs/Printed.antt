@@ -5,8 +5,8 @@ use Rattle.std.specs.Fmt.{decimal}
 use Rattle.std.specs.List.{join_with_byte}
 use Rattle.addr_text.specs.Canonical.{canonical_prefix}
 use Rattle.fwmark.specs.declared.permission.Permission.{Permission}
-use Rattle.policy_state.specs.declared.command.Command.TheVariants as command
-use Rattle.policy_state.specs.declared.command.Way.{Way}
+use Rattle.commands.specs.declared.command.Command.TheVariants as command
+use Rattle.commands.specs.declared.command.Way.{Way}
 use Rattle.prefixes.specs.declared.prefix.Prefix.{Prefix}
 use Rattle.script_reader.specs.Canonical.{canonical, piece_text, spaced}
 use Rattle.script_reader.specs.Grammar.{Piece, permission_text}

@@ -1,10 +1,10 @@
 -- The lines of a script, and which texts spell them.
 use Rattle.std.specs.Prelude.{◌≡◌, ℕ, ◌≤◌, ◌&&◌, Bool, true, List, [], ◌∷◌, length, codes, nat_le, slice_index, Option, None, Some, false}
 use Rattle.std.specs.List.{list_all}
-use Rattle.policy_state.specs.declared.command.Command.{Command}
-use Rattle.policy_state.specs.declared.command.Command.TheVariants as command
-use Rattle.policy_state.specs.declared.command.Way.{Way}
-use Rattle.policy_state.specs.declared.command.Way.TheVariants as way
+use Rattle.commands.specs.declared.command.Command.{Command}
+use Rattle.commands.specs.declared.command.Command.TheVariants as command
+use Rattle.commands.specs.declared.command.Way.{Way}
+use Rattle.commands.specs.declared.command.Way.TheVariants as way
 use Rattle.prefixes.specs.declared.prefix.Prefix.{Prefix}
 use Rattle.prefixes.specs.declared.addr.Family.TheVariants as family
 use Rattle.script_reader.specs.declared.line.Line.{Line}

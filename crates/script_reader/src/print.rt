@@ -3,7 +3,7 @@ ghost use Rattle.std.specs.Prelude.{None, ◌++◌, [], ◌∷◌};
 ghost use Rattle.std.specs.Fmt.{decimal};
 ghost use Rattle.addr_text.specs.Canonical.{canonical_prefix};
 ghost use Rattle.number_text.specs.Appends.{Appends};
-ghost use Rattle.policy_state.specs.declared.command.Command.TheVariants as command;
+ghost use Rattle.commands.specs.declared.command.Command.TheVariants as command;
 ghost use Rattle.script_reader.specs.Canonical.{canonical, printed, spaced};
 ghost use Rattle.script_reader.specs.Grammar.{permission_text};
 ghost use Rattle.script_reader.specs.Lines.{bound_pieces, route_pieces, special_pieces, way_pieces};

@@ -1,4 +1,6 @@
-use Rattle.std.proofs.Common.{◌≡◌, ◌∙◌, ap, sym, subst, map, List, Option, None, refl, string_bytes, inl, inr}
+use Rattle.std.proofs.Common.{◌∙◌, ap, sym, subst, map, List, Option, None, refl, string_bytes, String, true, false, ◌≡◌, inl, inr}
+use Rattle.std.specs.List.{list_any}
+use Rattle.std.specs.declared.alloc.Global.{Global}
 use Rattle.std.proofs.lemmas.Result.{IfOk-weaker}
 use Rattle.clap.specs.Simple.{is_simple}
 use Rattle.clap.specs.Faults.{is_simple_and_free}
@@ -22,6 +24,22 @@ pub returns-then-has_refused-clause-no_form : goal.returns-then-has_refused-clau
 returns-then-has_refused-clause-no_form c = λ _ form has.
     let any = sym (list_any-map is_refused string_bytes c.args.words.now) ∙ sym c.has_refused.ensures ∙ c.if-has_refused.true in
     no_form (map string_bytes c.args.words.now) (refused_none (map string_bytes c.args.words.now) any) form has
+
+-- a word is refused, by the words' bytes, and none is, by the words
+not_both : (words : List (String Global)) → list_any is_refused (map string_bytes words) ≡ true → list_any (λ word. is_refused (string_bytes word)) words ≡ false → ⊥
+not_both words some none = let both : true ≡ false = sym some ∙ sym (list_any-map is_refused string_bytes words) ∙ none in cc
+
+pub returns-in-Ok-try_get_matches_from-clause-refused : goal.returns-in-Ok-try_get_matches_from-clause-refused
+returns-in-Ok-try_get_matches_from-clause-refused c = λ any.
+    absurd (not_both c.args.words.now any (sym c.has_refused.ensures ∙ c.if-has_refused.false))
+
+pub returns-in-OutOfMemory-clause-refused : goal.returns-in-OutOfMemory-clause-refused
+returns-in-OutOfMemory-clause-refused c = λ any.
+    absurd (not_both c.args.words.now any (sym c.has_refused.ensures ∙ c.if-has_refused.false))
+
+pub returns-in_default-clause-refused : goal.returns-in_default-clause-refused
+returns-in_default-clause-refused c = λ any.
+    absurd (not_both c.args.words.now any (sym c.has_refused.ensures ∙ c.if-has_refused.false))
 
 pub returns-in-Ok-try_get_matches_from-clause-ok : goal.returns-in-Ok-try_get_matches_from-clause-ok
 returns-in-Ok-try_get_matches_from-clause-ok c =
@@ -54,4 +72,5 @@ returns c = record {
         | inl memory ↦ absurd (c.in_default-kind.not-OutOfMemory (c.kind.ensures ∙ memory))
         | inr among ↦ no_form words (refused_given _ words (kind_of c.in-Err.error) app clean among) form has
       ];
+  refused = λ any. absurd (not_both c.args.words.now any (sym c.has_refused.ensures ∙ c.if-has_refused.false));
 }

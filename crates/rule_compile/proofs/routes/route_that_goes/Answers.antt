@@ -10,7 +10,7 @@ use Rattle.kernel_model.specs.Switch.{requests_of}
 use Rattle.policy_state.specs.Step.{key_of, routes_at}
 use Rattle.policy_state.specs.Table.{link_table}
 use Rattle.policy_state.specs.View.{StateView, link_named}
-use Rattle.policy_state.specs.declared.command.Command.TheVariants as command
+use Rattle.commands.specs.declared.command.Command.TheVariants as command
 use Rattle.policy_state.proofs.Accepted.{routes_at-at}
 use Rattle.rule_compile.specs.Asked.{routes_gone}
 use Rattle.rule_compile.specs.Rows.{keyed_by}

@@ -1,6 +1,6 @@
 use Rattle.std.proofs.Common.{ap, sym}
 use Rattle.number_text.proofs.Appending.{both, rewritten}
-use Rattle.policy_state.specs.declared.command.Command.{Command}
+use Rattle.commands.specs.declared.command.Command.{Command}
 use Rattle.script_reader.specs.Canonical.{canonical}
 use Rattle.script_reader.specs.declared.line.Line.TheVariants as line
 use Rattle.script_reader.proofs.print.print_command.Goals as goal

@@ -2,7 +2,7 @@ use Rattle.std.proofs.Common.{◌≡◌, ◌∙◌, subst, sym, ap, Some, IfOk}
 use Rattle.networks.specs.Lists.{find_id}
 use Rattle.policy_state.specs.Step.{with_link}
 use Rattle.policy_state.specs.View.{StateView, IsGood}
-use Rattle.policy_state.specs.declared.command.Command.TheVariants as command
+use Rattle.commands.specs.declared.command.Command.TheVariants as command
 use Rattle.policy_state.proofs.Goodness.{good-changed}
 use Rattle.policy_state.proofs.Puts.{put-linked, with_link-id}
 use Rattle.policy_state.proofs.state.State.interface_added.Goals as goal

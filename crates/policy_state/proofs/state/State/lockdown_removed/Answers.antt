@@ -1,7 +1,7 @@
 use Rattle.std.proofs.Common.{rules, ◌≡◌, subst, sym}
 use Rattle.policy_state.specs.Step.{changed}
 use Rattle.policy_state.specs.View.{IsGood}
-use Rattle.policy_state.specs.declared.command.Command.TheVariants as command
+use Rattle.commands.specs.declared.command.Command.TheVariants as command
 use Rattle.policy_state.proofs.Goodness.{good-changed}
 use Rattle.policy_state.proofs.state.State.lockdown_removed.Goals as goal
 

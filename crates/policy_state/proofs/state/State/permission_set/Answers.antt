@@ -2,7 +2,7 @@ use Rattle.std.proofs.Common.{◌≡◌, ◌∙◌, subst, sym, ap, refl, Some, 
 use Rattle.networks.specs.Lists.{find_id}
 use Rattle.policy_state.specs.Step.{with_permission}
 use Rattle.policy_state.specs.View.{StateView, IsGood}
-use Rattle.policy_state.specs.declared.command.Command.TheVariants as command
+use Rattle.commands.specs.declared.command.Command.TheVariants as command
 use Rattle.policy_state.proofs.Goodness.{good-changed}
 use Rattle.policy_state.proofs.Puts.{put-changed}
 use Rattle.policy_state.proofs.state.State.permission_set.Goals as goal

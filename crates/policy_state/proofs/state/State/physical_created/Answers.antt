@@ -1,6 +1,6 @@
 use Rattle.std.proofs.Common.{◌≡◌, subst, sym, IfOk, arith}
 use Rattle.policy_state.specs.View.{StateView, IsGood}
-use Rattle.policy_state.specs.declared.command.Command.TheVariants as command
+use Rattle.commands.specs.declared.command.Command.TheVariants as command
 use Rattle.policy_state.proofs.Goodness.{good-changed}
 use Rattle.policy_state.proofs.Puts.{put-created}
 use Rattle.policy_state.proofs.state.State.physical_created.Goals as goal
