@@ -1,0 +1,17 @@
+-- What a table keeps, along its fields.
+use Rattle.std.proofs.Common.{◌≡◌, ◌+◌, ◌-◌, ◌*◌, ◌≤◌, sym, ◌∙◌, ap, subst, vec_len, vec_capacity}
+use Rattle.fib_table.specs.Table.{are_keys_distinct}
+use Rattle.fib_search.specs.Trie.{IsTrie}
+use Rattle.fib_trie.specs.Branches.{nodes_of}
+use Rattle.fib_trie.specs.Table.{IsKept}
+use Rattle.fib_trie.specs.declared.table.TrieTable.TheInside.{Inside}
+
+pub kept_by : (t u : Inside) → IsKept t → u.routes.items ≡ t.routes.items → u.branches.items ≡ t.branches.items
+    → vec_len u.routes + u.spare ≤ vec_capacity u.routes → vec_len u.branches + 2 * u.spare ≤ vec_capacity u.branches → 2 + 2 * u.spare ≤ vec_capacity u.branches + 2 * (1 - u.spare) → IsKept u
+kept_by t u kept routes branches route_room node_room root_room = record {
+  distinct = ap are_keys_distinct routes ∙ kept.distinct;
+  trie = subst (λ rs. IsTrie (nodes_of rs u.branches.items) rs) (sym routes) (subst (λ bs. IsTrie (nodes_of t.routes.items bs) t.routes.items) (sym branches) kept.trie);
+  route_room = route_room;
+  node_room = node_room;
+  root_room = root_room;
+}

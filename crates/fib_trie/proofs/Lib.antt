@@ -1,0 +1,12 @@
+pub mod Adding
+pub mod Between
+pub mod Firsts
+pub mod Joins
+pub mod Keeping
+pub mod Makes
+pub mod Placed
+pub mod Put
+pub mod Rooting
+pub mod Shapes
+pub mod Splices
+pub mod Stops

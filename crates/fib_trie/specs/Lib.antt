@@ -1,0 +1,5 @@
+pub mod Branches
+pub mod Made
+pub mod Roots
+pub mod Table
+pub mod Ways
