@@ -23,11 +23,16 @@ pub record IsChild (nodes : List (Option TrieNode)) (node : TrieNode) (bit : Boo
   pub within : IsTrue (covers node.prefix below.prefix.base)
   pub next : bit_at below.prefix.base node.prefix.len ≡ bit
 
--- from a place a prefix leads to a node of that prefix: on from a shorter one that covers it, by the child of its next bit
-pub data Leads (nodes : List (Option TrieNode)) (p : Prefix) : ℕ → Type 0 where
-  ends : (place : ℕ) (node : TrieNode) → node_at nodes place ≡ Some node → node.prefix ≡ p → Leads nodes p place
+-- From a place a prefix leads to the node at the goal, which has this prefix: on from a shorter prefix that covers it, by
+-- the child of its next bit.
+pub data LeadsTo (nodes : List (Option TrieNode)) (p : Prefix) (goal : ℕ) : ℕ → Type 0 where
+  ends : (node : TrieNode) → node_at nodes goal ≡ Some node → node.prefix ≡ p → LeadsTo nodes p goal goal
   goes_on : (place : ℕ) (node : TrieNode) → node_at nodes place ≡ Some node → node.prefix.len < p.len → IsTrue (covers node.prefix p.base)
-      → (next : ℕ) → child node (bit_at p.base node.prefix.len) ≡ Some next → Leads nodes p next → Leads nodes p place
+      → (next : ℕ) → child node (bit_at p.base node.prefix.len) ≡ Some next → LeadsTo nodes p goal next → LeadsTo nodes p goal place
+
+-- it leads to a node of this prefix
+abbrev pub Leads : List (Option TrieNode) → Prefix → ℕ → Type 0
+Leads nodes p place = (goal : ℕ) × LeadsTo nodes p goal place
 
 pub record IsTrie (nodes : List (Option TrieNode)) (routes : List Route) : Type 0 where
   pub rooted : (nodes ≡ []) ⊎ (IsRoot nodes 0 (addr.V4 0) × IsRoot nodes 1 (addr.V6 0))

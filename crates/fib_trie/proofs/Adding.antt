@@ -1,5 +1,5 @@
 -- One route more.
-use Rattle.std.proofs.Common.{List, [], ◌∷◌, ◌++◌, Option, refl, inl}
+use Rattle.std.proofs.Common.{ℕ, List, [], ◌∷◌, ◌++◌, Option, refl, inl}
 use Rattle.std.specs.List.{All}
 use Rattle.std.proofs.lemmas.Option.{none-some}
 use Rattle.std.proofs.lemmas.List.Elements.{All-nil, All-cons, All-head, All-tail}
@@ -28,8 +28,8 @@ empty_trie = record {
   found = All-nil _;
 }
 
-pub trie_added : (rs : List Route) (bs ds : List (Option Branch)) (r : Route) → IsTrie (nodes_of rs bs) rs → IsMade bs ds r.prefix → IsTrie (nodes_of (rs ++ r ∷ []) ds) (rs ++ r ∷ [])
-trie_added rs bs ds r trie made =
+pub trie_added : (rs : List Route) (bs ds : List (Option Branch)) (r : Route) (place : ℕ) → IsTrie (nodes_of rs bs) rs → IsMade bs ds r.prefix place → IsTrie (nodes_of (rs ++ r ∷ []) ds) (rs ++ r ∷ [])
+trie_added rs bs ds r place trie made =
     let kept = made.keeps rs trie in
     restated rs (rs ++ r ∷ []) ds kept
-    (All-push (λ x. Leads (nodes_of rs ds) x.prefix (root_of (family_of x.prefix.base))) rs r kept.found (Leads-twins (nodes_of [] ds) (nodes_of rs ds) (twins_of [] rs ds) r.prefix (root_of (family_of r.prefix.base)) made.leads))
+    (All-push (λ x. Leads (nodes_of rs ds) x.prefix (root_of (family_of x.prefix.base))) rs r kept.found (Leads-twins (nodes_of [] ds) (nodes_of rs ds) (twins_of [] rs ds) r.prefix (root_of (family_of r.prefix.base)) (place, made.leads)))

@@ -10,9 +10,10 @@ use Rattle.prefixes.specs.declared.prefix.Prefix.{Prefix}
 use Rattle.prefixes.specs.declared.route.Route.{Route}
 use Rattle.fib_trie.specs.declared.branch.Branch.{Branch}
 use Rattle.fib_search.specs.Node.{TrieNode, node_at, pick, bit_at, root_of}
-use Rattle.fib_search.specs.Trie.{Leads, IsTrie, IsChild, goes_on}
+use Rattle.fib_search.specs.Trie.{LeadsTo, IsTrie, IsChild, goes_on}
 use Rattle.fib_trie.specs.Ways.{Way, starts, steps}
-use Rattle.fib_trie.specs.Branches.{held, node_of, nodes_of, with_child, bare, IsPlaced}
+use Rattle.fib_trie.specs.Branches.{node_of, nodes_of, with_child, bare, IsPlaced}
+use Rattle.route_chains.specs.Places.{held}
 use Rattle.fib_trie.proofs.Shapes.{node_at-nodes_of}
 use Rattle.fib_trie.proofs.Splices.{Spliced, splice_keeps}
 use Rattle.fib_trie.proofs.Stops.{at_branch}
@@ -71,12 +72,12 @@ module _ (bs ds : List (Option Branch)) (here : ℕ) (bit : Bool) (place : ℕ) 
 
 -- where a way that ends here leads on
 pub leads_by : (nodes others : List (Option TrieNode)) (here : ℕ) → ((j : ℕ) (n : TrieNode) → (j ≡ here → ⊥) → node_at nodes j ≡ Some n → node_at others j ≡ Some n)
-    → (p : Prefix) → Leads others p here → (j : ℕ) → Way nodes p j → Leads others p j → Leads others p (root_of (family_of p.base))
-leads_by nodes others here same p from_here _ starts lead = lead
-leads_by nodes others here same p from_here _ (steps place node way at less within next by) lead =
-    leads_by nodes others here same p from_here place way
-    (elim (cases_eq place here) as (λ _. Leads others p place) [
-      | inl is ↦ subst (Leads others p) (sym is) from_here
+    → (p : Prefix) (goal : ℕ) → LeadsTo others p goal here → (j : ℕ) → Way nodes p j → LeadsTo others p goal j → LeadsTo others p goal (root_of (family_of p.base))
+leads_by nodes others here same p goal from_here _ starts lead = lead
+leads_by nodes others here same p goal from_here _ (steps place node way at less within next by) lead =
+    leads_by nodes others here same p goal from_here place way
+    (elim (cases_eq place here) as (λ _. LeadsTo others p goal place) [
+      | inl is ↦ subst (LeadsTo others p goal) (sym is) from_here
       | inr differs ↦ goes_on place node (same place node differs at) less within next by lead
     ])
 

@@ -1,6 +1,7 @@
 pub mod Adding
 pub mod Between
-pub mod Firsts
+pub mod Filed
+pub mod Finding
 pub mod Joins
 pub mod Keeping
 pub mod Makes

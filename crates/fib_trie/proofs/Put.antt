@@ -3,6 +3,7 @@ use Rattle.std.proofs.Common.{◌≡◌, ℕ, ◌+◌, ◌*◌, ◌/◌, ◌%◌
 use Rattle.std.specs.Bool.{IsTrue, if◌then◌else◌}
 use Rattle.std.proofs.lemmas.Bool.{cases_Bool, lt-ltb}
 use Rattle.std.proofs.Math.Nat.{div-add-mod}
+use Rattle.std.specs.Option.{option_map}
 use Rattle.std.proofs.lemmas.Option.{none-some, same_Some}
 use Rattle.prefixes.specs.Addr.{family_of, width_of, value_of}
 use Rattle.prefixes.specs.Prefix.{covers}
@@ -12,10 +13,11 @@ use Rattle.prefixes.specs.declared.addr.Addr.TheVariants as addr
 use Rattle.prefixes.specs.declared.prefix.Prefix.{Prefix}
 use Rattle.fib_trie.specs.declared.branch.Branch.{Branch}
 use Rattle.fib_search.specs.Node.{pick, bit_at}
-use Rattle.fib_search.specs.Trie.{Leads, IsTrie, ends}
+use Rattle.fib_search.specs.Trie.{LeadsTo, IsTrie, ends}
 use Rattle.fib_trie.specs.Ways.{IsStop}
 use Rattle.fib_trie.specs.Made.{IsMade, IsAbove}
-use Rattle.fib_trie.specs.Branches.{held, node_of, nodes_of, leads_on, kept_on, step_from}
+use Rattle.fib_trie.specs.Branches.{node_of, nodes_of, leads_on, kept_on, step_from}
+use Rattle.route_chains.specs.Places.{held}
 use Rattle.fib_search.proofs.Bits.{covers-Alike, width-family}
 use Rattle.fib_trie.proofs.Shapes.{of_node}
 use Rattle.fib_trie.proofs.Stops.{at_branch}
@@ -62,11 +64,16 @@ module _ (bs : List (Option Branch)) (p : Prefix) (here : ℕ) (b : Branch) (sto
       ]
 
   -- the prefix is there
-  pub made_here : p.len ≤ b.prefix.len → IsMade bs bs p
+  pub made_here : p.len ≤ b.prefix.len → IsMade bs bs p here
   made_here more =
       let short : b.prefix.len ≤ p.len = subst (λ (x : Branch). x.prefix.len ≤ p.len) branch_is stop.on.short in
-      let lead : Leads (nodes_of [] bs) p here = ends here (node_of [] b) (at_branch [] bs here b stands) (covers-same b.prefix p within_here (omega (arith, more, short))) in
-      record { keeps = λ rs trie. trie; leads = leads_by (nodes_of [] bs) (nodes_of [] bs) here (λ j n _ at. at) p lead here stop.on.way lead }
+      let lead : LeadsTo (nodes_of [] bs) p here here = ends (node_of [] b) (at_branch [] bs here b stands) (covers-same b.prefix p within_here (omega (arith, more, short))) in
+      record {
+        keeps = λ rs trie. trie;
+        leads = leads_by (nodes_of [] bs) (nodes_of [] bs) here (λ j n _ at. at) p here lead here stop.on.way lead;
+        reaches = λ trie reached. reached;
+        stays = λ j x at. ap (option_map (λ (y : Branch). y.prefix)) at;
+      }
 
   -- a child stands
   pub child_stands : IsTrie (nodes_of [] bs) [] → (next : ℕ) → pick (bit_at p.base b.prefix.len) b.zero b.one ≡ Some next → held bs next ≡ None → ⊥

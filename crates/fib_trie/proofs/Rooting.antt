@@ -9,8 +9,10 @@ use Rattle.prefixes.specs.declared.addr.Addr.TheVariants as addr
 use Rattle.prefixes.specs.declared.route.Route.{Route}
 use Rattle.fib_trie.specs.declared.branch.Branch.{Branch}
 use Rattle.fib_search.specs.Node.{TrieNode, node_at, child, pick, root_of}
-use Rattle.fib_search.specs.Trie.{Leads, IsTrie}
-use Rattle.fib_trie.specs.Branches.{held, node_of, nodes_of}
+use Rattle.fib_search.specs.Trie.{LeadsTo, Leads, IsTrie, ends}
+use Rattle.fib_trie.specs.Reached.{IsPlaceOf, AreReached}
+use Rattle.fib_trie.specs.Branches.{node_of, nodes_of}
+use Rattle.route_chains.specs.Places.{held}
 use Rattle.fib_trie.specs.Roots.{IsBareRoot}
 use Rattle.fib_search.proofs.Ways.{leads_nowhere}
 use Rattle.fib_trie.proofs.Shapes.{of_node}
@@ -50,3 +52,14 @@ some_there a bs is = cc
 pub no_items : (bs : List (Option Branch)) → length bs ≡ 0 → bs ≡ []
 no_items [] none = refl
 no_items (b ∷ bs) none = absurd (omega (arith, none))
+
+pub roots_reached : (a b : Branch) → IsBareRoot a (addr.V4 0) → IsBareRoot b (addr.V6 0) → AreReached (Some a ∷ Some b ∷ [])
+roots_reached a b first second zero x at =
+    let e : a ≡ x = same_Some a x at in
+    subst (λ (y : Branch). IsPlaceOf (Some a ∷ Some b ∷ []) y.prefix 0) e
+    (subst (λ k. LeadsTo (nodes_of [] (Some a ∷ Some b ∷ [])) a.prefix 0 k) (sym (ap (λ c. root_of (family_of c)) first.from)) (ends (node_of [] a) refl refl))
+roots_reached a b first second (suc zero) x at =
+    let e : b ≡ x = same_Some b x at in
+    subst (λ (y : Branch). IsPlaceOf (Some a ∷ Some b ∷ []) y.prefix 1) e
+    (subst (λ k. LeadsTo (nodes_of [] (Some a ∷ Some b ∷ [])) b.prefix 1 k) (sym (ap (λ c. root_of (family_of c)) second.from)) (ends (node_of [] b) refl refl))
+roots_reached a b first second (suc (suc k)) x at = absurd (none-some x at)

@@ -1,7 +1,7 @@
 -- Nodes with the same prefixes and children.
 use Rattle.std.proofs.Common.{◌≡◌, ℕ, zero, suc, ◌<◌, ◌⊎◌, Bool, List, [], ◌∷◌, Option, Some, None, refl, sym, ◌∙◌, ap, subst, inl, inr}
 use Rattle.std.specs.Bool.{IsTrue}
-use Rattle.std.specs.List.{All, filter, slice_get}
+use Rattle.std.specs.List.{All, filter}
 use Rattle.std.specs.Option.{option_map}
 use Rattle.std.proofs.lemmas.Option.{none-some, same_Some}
 use Rattle.prefixes.specs.Addr.{family_of}
@@ -12,8 +12,9 @@ use Rattle.prefixes.specs.declared.prefix.Prefix.{Prefix}
 use Rattle.prefixes.specs.declared.route.Route.{Route}
 use Rattle.fib_trie.specs.declared.branch.Branch.{Branch}
 use Rattle.fib_search.specs.Node.{TrieNode, node_at, child, bit_at, root_of}
-use Rattle.fib_search.specs.Trie.{Leads, IsTrie, IsChild, IsRoot, ends, goes_on}
-use Rattle.fib_trie.specs.Branches.{held, node_of, nodes_of}
+use Rattle.fib_search.specs.Trie.{LeadsTo, Leads, IsTrie, IsChild, IsRoot, ends, goes_on}
+use Rattle.fib_trie.specs.Branches.{node_of, nodes_of}
+use Rattle.route_chains.specs.Places.{held}
 
 pub node_at-nodes_of : (rs : List Route) (bs : List (Option Branch)) (place : ℕ) → node_at (nodes_of rs bs) place ≡ option_map (node_of rs) (held bs place)
 node_at-nodes_of rs [] place = refl
@@ -30,12 +31,15 @@ pub record Twin (nodes : List (Option TrieNode)) (place : ℕ) (node : TrieNode)
 abbrev pub Twins : List (Option TrieNode) → List (Option TrieNode) → Type 0
 Twins nodes others = (place : ℕ) (node : TrieNode) → node_at nodes place ≡ Some node → Twin others place node
 
-pub Leads-twins : (nodes others : List (Option TrieNode)) → Twins nodes others → (p : Prefix) (place : ℕ) → Leads nodes p place → Leads others p place
-Leads-twins nodes others twins p _ (ends place node at is) = let t = twins place node at in ends place t.twin t.stands (t.prefix ∙ is)
-Leads-twins nodes others twins p _ (goes_on place node at longer within next by rest) =
+pub LeadsTo-twins : (nodes others : List (Option TrieNode)) → Twins nodes others → (p : Prefix) (goal place : ℕ) → LeadsTo nodes p goal place → LeadsTo others p goal place
+LeadsTo-twins nodes others twins p goal _ (ends node at is) = let t = twins goal node at in ends t.twin t.stands (t.prefix ∙ is)
+LeadsTo-twins nodes others twins p goal _ (goes_on place node at longer within next by rest) =
     let t = twins place node at in
     goes_on place t.twin t.stands (subst (λ (q : Prefix). q.len < p.len) (sym t.prefix) longer) (subst (λ q. IsTrue (covers q p.base)) (sym t.prefix) within)
-    next (ap (λ (q : Prefix). child t.twin (bit_at p.base q.len)) t.prefix ∙ t.children (bit_at p.base node.prefix.len) ∙ by) (Leads-twins nodes others twins p next rest)
+    next (ap (λ (q : Prefix). child t.twin (bit_at p.base q.len)) t.prefix ∙ t.children (bit_at p.base node.prefix.len) ∙ by) (LeadsTo-twins nodes others twins p goal next rest)
+
+pub Leads-twins : (nodes others : List (Option TrieNode)) → Twins nodes others → (p : Prefix) (place : ℕ) → Leads nodes p place → Leads others p place
+Leads-twins nodes others twins p place way = (way.0, LeadsTo-twins nodes others twins p way.0 place way.1)
 
 -- the place of a node is kept, with its prefix
 pub record Stays (nodes : List (Option TrieNode)) (place : ℕ) (p : Prefix) : Type 0 where
@@ -111,13 +115,3 @@ restated rs others bs trie lead = record {
     empty : (bs : List (Option Branch)) → nodes_of rs bs ≡ [] → nodes_of others bs ≡ []
     empty [] none = refl
     empty (b ∷ bs) none = cc
-
-pub held_get : (bs : List (Option Branch)) (place : ℕ) (o : Option Branch) → slice_get bs place ≡ Some o → held bs place ≡ o
-held_get [] place o is = absurd (none-some o is)
-held_get (b ∷ bs) zero o is = same_Some b o is
-held_get (b ∷ bs) (suc place) o is = held_get bs place o is
-
-pub held_none : (bs : List (Option Branch)) (place : ℕ) → slice_get bs place ≡ None → held bs place ≡ None
-held_none [] place is = refl
-held_none (b ∷ bs) zero is = absurd (none-some b (sym is))
-held_none (b ∷ bs) (suc place) is = held_none bs place is

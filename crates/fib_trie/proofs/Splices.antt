@@ -11,9 +11,9 @@ use Rattle.prefixes.specs.declared.addr.Addr.TheVariants as addr
 use Rattle.prefixes.specs.declared.prefix.Prefix.{Prefix}
 use Rattle.prefixes.specs.declared.route.Route.{Route}
 use Rattle.fib_search.specs.Node.{TrieNode, node_at, child, bit_at, root_of}
-use Rattle.fib_search.specs.Trie.{Leads, IsTrie, IsChild, IsRoot, ends, goes_on}
+use Rattle.fib_search.specs.Trie.{LeadsTo, Leads, IsTrie, IsChild, IsRoot, ends, goes_on}
 use Rattle.fib_search.proofs.Bits.{covers-trans, covers-bit}
-use Rattle.fib_search.proofs.Ways.{leads_from}
+use Rattle.fib_search.proofs.Ways.{leads_to_from}
 use Rattle.fib_trie.proofs.Shapes.{Stays, IsChild-stays, rooted-stays}
 
 -- A node `new` at an empty place goes between the node here and its child for a bit, if there is one.
@@ -44,22 +44,22 @@ module _ (nodes others : List (Option TrieNode)) (here : ℕ) (node : TrieNode) 
   ]
 
   -- a way to a prefix goes on to lead there, now by the new node where it went by the child
-  pub Leads-spliced : ((j : ℕ) (n : TrieNode) (b : Bool) (c : ℕ) → node_at nodes j ≡ Some n → child n b ≡ Some c → IsChild nodes n b c) → (p : Prefix) (j : ℕ) → Leads nodes p j → Leads others p j
-  Leads-spliced kids p _ (ends j n at is) = let t = stays j n at in ends j t.node t.stands (t.prefix ∙ is)
-  Leads-spliced kids p _ (goes_on j n at longer within next by rest) =
-      let later = Leads-spliced kids p next rest in
-      elim (cases_eq j here) as (λ _. Leads others p j) [
+  pub LeadsTo-spliced : ((j : ℕ) (n : TrieNode) (b : Bool) (c : ℕ) → node_at nodes j ≡ Some n → child n b ≡ Some c → IsChild nodes n b c) → (p : Prefix) (goal j : ℕ) → LeadsTo nodes p goal j → LeadsTo others p goal j
+  LeadsTo-spliced kids p goal _ (ends n at is) = let t = stays goal n at in ends t.node t.stands (t.prefix ∙ is)
+  LeadsTo-spliced kids p goal _ (goes_on j n at longer within next by rest) =
+      let later = LeadsTo-spliced kids p goal next rest in
+      elim (cases_eq j here) as (λ _. LeadsTo others p goal j) [
         | inl is ↦
             let e : n ≡ node = same_Some n node (sym at ∙ ap (node_at nodes) is ∙ s.stands) in
             let pe : n.prefix ≡ s.changed.prefix = ap (λ (m : TrieNode). m.prefix) e ∙ sym s.same_prefix in
             let longer' : s.changed.prefix.len < p.len = subst (λ (q : Prefix). q.len < p.len) pe longer in
             let within' : IsTrue (covers s.changed.prefix p.base) = subst (λ q. IsTrue (covers q p.base)) pe within in
             let by' : child node (bit_at p.base s.changed.prefix.len) ≡ Some next = ap (λ m. child m (bit_at p.base s.changed.prefix.len)) (sym e) ∙ ap (λ (q : Prefix). child n (bit_at p.base q.len)) (sym pe) ∙ by in
-            subst (Leads others p) (sym is)
-            (elim (same_bit (bit_at p.base s.changed.prefix.len) bit) as (λ _. Leads others p here) [
+            subst (LeadsTo others p goal) (sym is)
+            (elim (same_bit (bit_at p.base s.changed.prefix.len) bit) as (λ _. LeadsTo others p goal here) [
               | inl same ↦
                   let down : child node bit ≡ Some next = subst (λ b. child node b ≡ Some next) same by' in
-                  goes_on here s.changed s.stands_changed longer' within' place (ap (child s.changed) same ∙ s.to_new) (by_new p next down rest later)
+                  goes_on here s.changed s.stands_changed longer' within' place (ap (child s.changed) same ∙ s.to_new) (by_new p goal next down rest later)
               | inr differs ↦ goes_on here s.changed s.stands_changed longer' within' next (s.other_child (bit_at p.base s.changed.prefix.len) differs ∙ by') later
             ])
         | inr differs ↦ goes_on j n (s.rest j differs (λ is. none-some n (sym s.free ∙ ap (node_at nodes) (sym is) ∙ at)) ∙ at) longer within next by later
@@ -71,18 +71,18 @@ module _ (nodes others : List (Option TrieNode)) (here : ℕ) (node : TrieNode) 
       same_bit false true = inr (λ e. both_ways true (sym e) refl)
       same_bit false false = inl refl
 
-      by_new : (p : Prefix) (next : ℕ) → child node bit ≡ Some next → Leads nodes p next → Leads others p next → Leads others p place
-      by_new p next down rest later =
+      by_new : (p : Prefix) (goal next : ℕ) → child node bit ≡ Some next → LeadsTo nodes p goal next → LeadsTo others p goal next → LeadsTo others p goal place
+      by_new p goal next down rest later =
           let kid = kids here node bit next s.stands down in
           let to = s.below next kid.below down kid.stands in
           let one = s.children (bit_at kid.below.prefix.base new.prefix.len) next to in
           let x : one.below ≡ kid.below = same_Some one.below kid.below (sym one.stands ∙ kid.stands) in
           let long : new.prefix.len < kid.below.prefix.len = subst (λ (m : TrieNode). new.prefix.len < m.prefix.len) x one.longer in
           let in_new : IsTrue (covers new.prefix kid.below.prefix.base) = subst (λ (m : TrieNode). IsTrue (covers new.prefix m.prefix.base)) x one.within in
-          elim (leads_from nodes p next kid.below rest kid.stands) as (λ _. Leads others p place) [
+          elim (leads_to_from nodes p goal next kid.below rest kid.stands) as (λ _. LeadsTo others p goal place) [
             | inl is ↦
-                goes_on place new s.stands_new (subst (λ (q : Prefix). new.prefix.len < q.len) is long) (subst (λ (q : Prefix). IsTrue (covers new.prefix q.base)) is in_new)
-                next (subst (λ (q : Prefix). child new (bit_at q.base new.prefix.len) ≡ Some next) is to) later
+                goes_on place new s.stands_new (subst (λ (q : Prefix). new.prefix.len < q.len) is.1 long) (subst (λ (q : Prefix). IsTrue (covers new.prefix q.base)) is.1 in_new)
+                next (subst (λ (q : Prefix). child new (bit_at q.base new.prefix.len) ≡ Some next) is.1 to) later
             | inr on ↦
                 let further = on.longer in
                 goes_on place new s.stands_new (omega (arith, long, further)) (covers-trans new.prefix kid.below.prefix p.base (omega (arith, long)) in_new on.within)
@@ -99,7 +99,7 @@ module _ (nodes others : List (Option TrieNode)) (here : ℕ) (node : TrieNode) 
     children = kids;
     filed = files;
     found = All-weaker (λ r. Leads nodes r.prefix (root_of (family_of r.prefix.base))) (λ r. Leads others r.prefix (root_of (family_of r.prefix.base)))
-        (λ r way. Leads-spliced trie.children r.prefix (root_of (family_of r.prefix.base)) way) routes trie.found;
+        (λ r way. (way.0, LeadsTo-spliced trie.children r.prefix way.0 (root_of (family_of r.prefix.base)) way.1)) routes trie.found;
   }
     where
       where_is : (j : ℕ) (n : TrieNode) → node_at others j ≡ Some n → ((j ≡ here) × (n ≡ s.changed)) ⊎ (((j ≡ place) × (n ≡ new)) ⊎ (node_at nodes j ≡ Some n))

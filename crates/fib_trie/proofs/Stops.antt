@@ -18,7 +18,8 @@ use Rattle.fib_trie.specs.declared.branch.Branch.{Branch}
 use Rattle.fib_search.specs.Node.{TrieNode, node_at, pick, bit_at, root_of, level_of}
 use Rattle.fib_search.specs.Trie.{IsTrie, IsRoot}
 use Rattle.fib_trie.specs.Ways.{starts, steps, IsOn, IsStop}
-use Rattle.fib_trie.specs.Branches.{held, node_of, nodes_of, leads_on, kept_on, step_from, step_to}
+use Rattle.fib_trie.specs.Branches.{node_of, nodes_of, leads_on, kept_on, step_from, step_to}
+use Rattle.route_chains.specs.Places.{held}
 use Rattle.fib_search.proofs.Bits.{Alike-covers, width-family}
 use Rattle.fib_trie.proofs.Shapes.{node_at-nodes_of, of_node}
 use Rattle.fib_search.proofs.Going.{level}

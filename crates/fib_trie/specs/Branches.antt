@@ -1,17 +1,12 @@
 -- Nodes whose routes stand in a list beside them.
-use Rattle.std.specs.Prelude.{◌≡◌, ℕ, zero, suc, Bool, false, ◌&&◌, not, nat_lt, if◌then◌else◌, map, filter, List, [], ◌∷◌, Option, Some, None}
+use Rattle.std.specs.Prelude.{◌≡◌, ℕ, Bool, false, ◌&&◌, not, nat_lt, if◌then◌else◌, map, filter, List, Option, Some, None}
 use Rattle.std.specs.Option.{option_map, option_and_then}
 use Rattle.prefixes.specs.Prefix.{covers, same_prefix}
 use Rattle.prefixes.specs.declared.prefix.Prefix.{Prefix}
 use Rattle.prefixes.specs.declared.route.Route.{Route}
+use Rattle.route_chains.specs.Places.{held}
 use Rattle.fib_search.specs.Node.{TrieNode, bit_at, pick}
 use Rattle.fib_trie.specs.declared.branch.Branch.{Branch}
-
--- the branch at a place, if the place isn't empty
-abbrev pub held : List (Option Branch) → ℕ → Option Branch
-held [] place = None
-held (here ∷ branches) zero = here
-held (here ∷ branches) (suc place) = held branches place
 
 -- a branch with the routes of exactly its prefix
 abbrev pub node_of : List Route → Branch → TrieNode

@@ -1,19 +1,23 @@
 -- A place for a prefix was made.
 use Rattle.std.specs.Prelude.{◌≡◌, ◌≢◌, ℕ, ◌<◌, IsTrue, List, [], Option, Some}
-use Rattle.prefixes.specs.Addr.{family_of}
 use Rattle.prefixes.specs.Prefix.{covers}
 use Rattle.prefixes.specs.declared.prefix.Prefix.{Prefix}
 use Rattle.prefixes.specs.declared.route.Route.{Route}
 use Rattle.fib_trie.specs.declared.branch.Branch.{Branch}
-use Rattle.fib_search.specs.Node.{bit_at, pick, root_of}
-use Rattle.fib_search.specs.Trie.{Leads, IsTrie}
+use Rattle.fib_search.specs.Node.{bit_at, pick}
+use Rattle.fib_search.specs.Trie.{IsTrie}
+use Rattle.fib_trie.specs.Reached.{prefix_at, IsPlaceOf, AreReached}
 use Rattle.fib_trie.specs.Ways.{Way}
-use Rattle.fib_trie.specs.Branches.{held, nodes_of}
+use Rattle.fib_trie.specs.Branches.{nodes_of}
+use Rattle.route_chains.specs.Places.{held}
 
--- the branches are the trie of what they were the trie of, and lead to the prefix
-pub record IsMade (old changed : List (Option Branch)) (p : Prefix) : Type 0 where
+-- The branches are the trie of what they were the trie of, and lead to the prefix at this place. They are reached if they
+-- were, and each one that stood keeps its prefix.
+pub record IsMade (old changed : List (Option Branch)) (p : Prefix) (place : ℕ) : Type 0 where
   pub keeps : (routes : List Route) → IsTrie (nodes_of routes old) routes → IsTrie (nodes_of routes changed) routes
-  pub leads : Leads (nodes_of [] changed) p (root_of (family_of p.base))
+  pub leads : IsPlaceOf changed p place
+  pub reaches : IsTrie (nodes_of [] old) [] → AreReached old → AreReached changed
+  pub stays : (j : ℕ) (b : Branch) → held old j ≡ Some b → prefix_at changed j ≡ Some b.prefix
 
 -- the branch here is on the way to a longer prefix
 pub record IsAbove (branches : List (Option Branch)) (here : ℕ) (branch : Branch) (p : Prefix) : Type 0 where

@@ -5,7 +5,8 @@ use Rattle.prefixes.specs.Prefix.{covers}
 use Rattle.prefixes.specs.declared.prefix.Prefix.{Prefix}
 use Rattle.fib_trie.specs.declared.branch.Branch.{Branch}
 use Rattle.fib_search.specs.Node.{TrieNode, node_at, child, bit_at, root_of}
-use Rattle.fib_trie.specs.Branches.{held, nodes_of, step_from}
+use Rattle.fib_trie.specs.Branches.{nodes_of, step_from}
+use Rattle.route_chains.specs.Places.{held}
 
 pub data Way (nodes : List (Option TrieNode)) (p : Prefix) : ℕ → Type 0 where
   starts : Way nodes p (root_of (family_of p.base))

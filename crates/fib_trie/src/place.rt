@@ -3,17 +3,19 @@ ghost use Rattle.std.specs.Prelude.{◌≡◌, ◌≢◌, IsTrue, false, None, n
 ghost use Rattle.std.specs.Option.{option_map};
 ghost use Rattle.prefixes.specs.Addr.{IsAddr, width_of};
 ghost use Rattle.fib_search.specs.Node.{bit_at, pick};
-ghost use Rattle.fib_trie.specs.Branches.{held, leads_on, kept_on, step_from, step_to, with_child, bare, IsPlaced, nodes_of};
+ghost use Rattle.fib_trie.specs.Branches.{leads_on, kept_on, step_from, step_to, with_child, bare, IsPlaced, nodes_of};
+ghost use Rattle.route_chains.specs.Places.{held};
 ghost use Rattle.fib_trie.specs.Made.{IsMade, IsAbove, IsBelow, IsFork};
 ghost use Rattle.prefixes.specs.Prefix.{covers};
 ghost use Rattle.fib_search.specs.Trie.{IsTrie};
+ghost use Rattle.fib_trie.specs.Reached.{IsPlace, is_prefix_at};
 ghost use Rattle.fib_trie.specs.Ways.{IsStop};
 
 use crate::branch::Branch;
 use crate::common::{common, cut};
-use crate::table::held;
 use fib_search::{bit_at, root_of};
-use prefixes::{Addr, Prefix};
+use prefixes::{Addr, Prefix, same_prefix};
+use route_chains::{held, push_held, put};
 
 fn leads_on(here: Option<Branch>, prefix: &Prefix) -> bool
     ensures { result ≡ leads_on here prefix.now }
@@ -82,24 +84,6 @@ fn is_addr(addr: Addr)
     }
 }
 
-pub(crate) fn push_in_room(branches: &mut Vec<Option<Branch>>, new: Branch)
-    requires { vec_len branches.old < vec_capacity branches.old }
-    ensures items { branches.new.items ≡ branches.old.items ++ Some new ∷ [] }
-    ensures len { vec_len branches.new ≡ vec_len branches.old + 1 }
-    ensures capacity { vec_capacity branches.new ≡ vec_capacity branches.old }
-{
-    let _ = branches.insert(branches.len(), Some(new));
-}
-
-fn set_at(branches: &mut Vec<Option<Branch>>, here: usize, changed: Branch)
-    requires { here < vec_len branches.old }
-    ensures items { branches.new.items ≡ slice_set branches.old.items here (Some changed) }
-    ensures len { vec_len branches.new ≡ vec_len branches.old }
-    ensures capacity { vec_capacity branches.new ≡ vec_capacity branches.old }
-{
-    branches[here] = Some(changed);
-}
-
 // Puts a branch at an empty place, as a child of the branch here.
 fn place_below(
     branches: &mut Vec<Option<Branch>>,
@@ -115,8 +99,8 @@ fn place_below(
     ensures capacity { vec_capacity branches.new ≡ vec_capacity branches.old }
 {
     let place = branches.len();
-    set_at(branches, here, with_child(branch, bit, place));
-    push_in_room(branches, new);
+    put(branches, here, Some(with_child(branch, bit, place)));
+    push_held(branches, new);
     place
 }
 
@@ -153,17 +137,22 @@ fn bare(prefix: Prefix) -> Branch
     }
 }
 
-fn put_leaf(branches: &mut Vec<Option<Branch>>, here: usize, branch: Branch, prefix: Prefix)
+fn put_leaf(
+    branches: &mut Vec<Option<Branch>>,
+    here: usize,
+    branch: Branch,
+    prefix: Prefix,
+) -> usize
     requires above { IsAbove branches.old.items here branch prefix }
     requires alone { pick (bit_at prefix.base branch.prefix.len) branch.zero branch.one ≡ None }
     requires room { vec_len branches.old < vec_capacity branches.old }
-    ensures made { IsMade branches.old.items branches.new.items prefix }
+    ensures made { IsMade branches.old.items branches.new.items prefix result }
     ensures len { vec_len branches.new ≡ vec_len branches.old + 1 }
     ensures capacity { vec_capacity branches.new ≡ vec_capacity branches.old }
 {
     let _ = prefix.len;
     let bit = bit_at(prefix.base(), branch.prefix.len());
-    let _ = place_below(branches, here, branch, bit, bare(prefix));
+    place_below(branches, here, branch, bit, bare(prefix))
 }
 
 fn put_over(
@@ -173,13 +162,13 @@ fn put_over(
     prefix: Prefix,
     next: usize,
     below: Branch,
-)
+) -> usize
     requires above { IsAbove branches.old.items here branch prefix }
     requires below { IsBelow branches.old.items branch prefix next below }
     requires shorter { prefix.len < below.prefix.len }
     requires covers { IsTrue (covers prefix below.prefix.base) }
     requires room { vec_len branches.old < vec_capacity branches.old }
-    ensures made { IsMade branches.old.items branches.new.items prefix }
+    ensures made { IsMade branches.old.items branches.new.items prefix result }
     ensures len { vec_len branches.new ≡ vec_len branches.old + 1 }
     ensures capacity { vec_capacity branches.new ≡ vec_capacity branches.old }
 {
@@ -187,13 +176,13 @@ fn put_over(
     let bit = bit_at(prefix.base(), branch.prefix.len());
     let _ = below.prefix.len;
     let side = bit_at(below.prefix.base(), prefix.len());
-    let _ = place_below(
+    place_below(
         branches,
         here,
         branch,
         bit,
         with_child(bare(prefix), side, next),
-    );
+    )
 }
 
 fn put_fork(
@@ -204,14 +193,14 @@ fn put_fork(
     next: usize,
     below: Branch,
     fork: Prefix,
-)
+) -> usize
     requires trie { IsTrie (nodes_of [] branches.old.items) [] }
     requires above { IsAbove branches.old.items here branch prefix }
     requires below { IsBelow branches.old.items branch prefix next below }
     requires longer { branch.prefix.len < fork.len }
     requires fork { IsFork fork prefix below.prefix }
     requires room { vec_len branches.old + 2 ≤ vec_capacity branches.old }
-    ensures made { IsMade branches.old.items branches.new.items prefix }
+    ensures made { IsMade branches.old.items branches.new.items prefix result }
     ensures len { vec_len branches.new ≡ vec_len branches.old + 2 }
     ensures capacity { vec_capacity branches.new ≡ vec_capacity branches.old }
 {
@@ -222,7 +211,7 @@ fn put_fork(
     let new = with_child(bare(fork), side, next);
     let place = place_below(branches, here, branch, bit, new);
     let other = bit_at(prefix.base(), fork.len());
-    let _ = place_below(branches, place, new, other, bare(prefix));
+    place_below(branches, place, new, other, bare(prefix))
 }
 
 // Puts a branch of this prefix between a branch and a child that it doesn't lead on by.
@@ -233,13 +222,13 @@ fn put_between(
     prefix: Prefix,
     next: usize,
     below: Branch,
-)
+) -> usize
     requires trie { IsTrie (nodes_of [] branches.old.items) [] }
     requires above { IsAbove branches.old.items here branch prefix }
     requires below { IsBelow branches.old.items branch prefix next below }
     requires off { leads_on (Some below) prefix ≡ false }
     requires room { vec_len branches.old + 2 ≤ vec_capacity branches.old }
-    ensures made { IsMade branches.old.items branches.new.items prefix }
+    ensures made { IsMade branches.old.items branches.new.items prefix result }
     ensures len { vec_len branches.new ≤ vec_len branches.old + 2 }
     ensures capacity { vec_capacity branches.new ≡ vec_capacity branches.old }
 {
@@ -254,9 +243,9 @@ fn put_between(
     );
     if len < prefix.len() {
         let fork = cut(prefix.base(), len);
-        put_fork(branches, here, branch, prefix, next, below, fork);
+        put_fork(branches, here, branch, prefix, next, below, fork)
     } else {
-        put_over(branches, here, branch, prefix, next, below);
+        put_over(branches, here, branch, prefix, next, below)
     }
 }
 
@@ -277,40 +266,65 @@ fn next_of(branch: &Branch, addr: Addr) -> Option<usize>
     }
 }
 
-fn put(branches: &mut Vec<Option<Branch>>, here: usize, branch: Branch, prefix: Prefix)
+fn put_at(branches: &mut Vec<Option<Branch>>, here: usize, branch: Branch, prefix: Prefix) -> usize
     requires trie { IsTrie (nodes_of [] branches.old.items) [] }
     requires stop { IsStop branches.old.items prefix here }
     requires stands { held branches.old.items here ≡ Some branch }
     requires room { vec_len branches.old + 2 ≤ vec_capacity branches.old }
-    ensures made { IsMade branches.old.items branches.new.items prefix }
+    ensures made { IsMade branches.old.items branches.new.items prefix result }
     ensures len { vec_len branches.new ≤ vec_len branches.old + 2 }
     ensures capacity { vec_capacity branches.new ≡ vec_capacity branches.old }
 {
     if branch.prefix.len() >= prefix.len() {
-        return;
+        return here;
     }
     let _ = prefix.len;
     match next_of(&branch, prefix.base()) {
         None => put_leaf(branches, here, branch, prefix),
         Some(next) => match held(branches, next) {
             Some(below) => put_between(branches, here, branch, prefix, next, below),
-            None => {}
+            None => here,
         },
     }
 }
 
-/// Makes a place for a prefix, where there is none.
-pub(crate) fn make_place(branches: &mut Vec<Option<Branch>>, prefix: Prefix)
+/// Makes a node for a prefix, where there is none, and answers its place.
+pub(crate) fn make_place(branches: &mut Vec<Option<Branch>>, prefix: Prefix) -> usize
     requires trie { IsTrie (nodes_of [] branches.old.items) [] }
     requires rooted { branches.old.items ≢ [] }
     requires room { vec_len branches.old + 2 ≤ vec_capacity branches.old }
-    ensures made { IsMade branches.old.items branches.new.items prefix }
+    ensures made { IsMade branches.old.items branches.new.items prefix result }
     ensures len { vec_len branches.new ≤ vec_len branches.old + 2 }
     ensures capacity { vec_capacity branches.new ≡ vec_capacity branches.old }
 {
     let here = descend(branches, prefix);
     match held(branches, here) {
-        Some(branch) => put(branches, here, branch, prefix),
-        None => {}
+        Some(branch) => put_at(branches, here, branch, prefix),
+        None => here,
+    }
+}
+
+fn is_prefix_at(branches: &[Option<Branch>], place: usize, prefix: &Prefix) -> bool
+    ensures { result ≡ is_prefix_at branches.now place prefix.now }
+{
+    match held(branches, place) {
+        Some(branch) => same_prefix(&branch.prefix, prefix),
+        None => false,
+    }
+}
+
+/// The place of the node of a prefix.
+pub(crate) fn find_place(branches: &[Option<Branch>], prefix: Prefix) -> Option<usize>
+    requires { IsTrie (nodes_of [] branches.now) [] }
+    ensures { IsPlace branches.now prefix result }
+{
+    if branches.is_empty() {
+        return None;
+    }
+    let place = descend(branches, prefix);
+    if is_prefix_at(branches, place, &prefix) {
+        Some(place)
+    } else {
+        None
     }
 }

@@ -2,20 +2,21 @@ ghost use Rattle.std.specs.Prelude.{◌≡◌, ◌+◌, ◌<◌, ◌≤◌, ◌�
 ghost use Rattle.prefixes.specs.Best.{IsBest, best};
 ghost use Rattle.prefixes.specs.declared.route.Route.{Route};
 ghost use Rattle.fib_table.specs.Table.{has_key, has_route, without_route, are_keys_distinct};
-ghost use Rattle.std.specs.Prelude.{filter, ◌&&◌, vec_len, vec_capacity};
+ghost use Rattle.std.specs.Prelude.{vec_len, vec_capacity};
 ghost use Rattle.std.specs.Option.{option_map};
-ghost use Rattle.prefixes.specs.Prefix.{same_prefix};
-ghost use Rattle.prefixes.specs.Route.{suits, link_of};
-ghost use Rattle.fib_search.specs.Node.{node_at, view_of, first_of};
+ghost use Rattle.fib_search.specs.Node.{node_at, view_of};
 ghost use Rattle.fib_search.specs.Trie.{IsTrie};
-ghost use Rattle.fib_trie.specs.Branches.{held, nodes_of};
+ghost use Rattle.fib_trie.specs.Branches.{nodes_of};
+ghost use Rattle.fib_trie.specs.Reached.{AreFiled, AreReached};
+ghost use Rattle.fib_trie.specs.Table.{routes_of};
 
 use crate::branch::Branch;
-use crate::place::make_place;
+use crate::place::{find_place, make_place};
 use crate::reader::NodeReader;
 use crate::roots::ensure_roots;
 use fib_search::{NodeView, lookup_counted};
-use prefixes::{Addr, Prefix, Route, same_key, same_prefix, same_route};
+use prefixes::{Addr, Route, same_route};
+use route_chains::{RouteChains, held};
 use std::alloc::{AllocError, Global};
 use std::marker::Model;
 
@@ -27,6 +28,8 @@ const MOST: usize = 1 << 56;
 pub struct TrieTable {
     routes: Vec<Route>,
     branches: Vec<Option<Branch>>,
+    /// A chain for each place of a node.
+    chains: RouteChains,
     spare: usize,
 }
 
@@ -41,12 +44,6 @@ impl Model for TrieTable {
     ghost view = { λ t. record { routes = t.routes.items; room = t.spare; nodes = nodes_of t.routes.items t.branches.items } };
 
     ghost invariant = { IsKept };
-}
-
-fn any_has_key(routes: &[Route], route: &Route) -> bool
-    ensures { result ≡ has_key routes.now route.now }
-{
-    routes.iter().any(|other| same_key(other, route))
 }
 
 fn push_route(routes: &mut Vec<Route>, route: Route)
@@ -66,11 +63,12 @@ impl TrieTable {
         TrieTable {
             routes: Vec::new(alloc),
             branches: Vec::new(alloc),
+            chains: RouteChains::new(alloc),
             spare: 0,
         }
     }
 
-    /// Makes room for so many routes more. Want of memory leaves the routes as they are.
+    /// Makes room for so many routes more. Out of memory leaves the routes as they are.
     pub fn reserve(&mut self, more: usize) -> Result<(), AllocError>
         ensures routes { self.new.routes ≡ self.old.routes }
         ensures ok { OnOk result (more ≤ self.new.room) }
@@ -90,6 +88,13 @@ impl TrieTable {
             Ok(()) => {}
             Err(err) => return Err(err),
         }
+        match self
+            .chains
+            .reserve(more, self.branches.len() + 2 * more + 2)
+        {
+            Ok(()) => {}
+            Err(err) => return Err(err),
+        }
         self.spare = more;
         Ok(())
     }
@@ -102,7 +107,8 @@ impl TrieTable {
         ensures room { self.new.room + 1 ≡ self.old.room }
     {
         ensure_roots(&mut self.branches);
-        make_place(&mut self.branches, route.prefix);
+        let place = make_place(&mut self.branches, route.prefix);
+        self.chains.push(place, route);
         push_route(&mut self.routes, route);
         self.spare -= 1;
     }
@@ -126,7 +132,10 @@ impl TrieTable {
     pub fn has_key(&self, route: &Route) -> bool
         ensures { result ≡ has_key self.now.routes route.now }
     {
-        any_has_key(&self.routes, route)
+        match find_place(&self.branches, route.prefix) {
+            Some(place) => self.chains.has_key(place, route),
+            None => false,
+        }
     }
 
     /// Takes the route out.
@@ -135,6 +144,10 @@ impl TrieTable {
         ensures routes { self.new.routes ≡ without_route self.old.routes route.now }
         ensures room { self.old.room ≤ self.new.room }
     {
+        let Some(place) = find_place(&self.branches, route.prefix) else {
+            return;
+        };
+        self.chains.remove(place, route);
         self.routes.retain(|other| !same_route(other, route));
     }
 
@@ -157,65 +170,27 @@ impl TrieTable {
     pub(crate) fn node(&self, place: usize, bound: Option<u16>) -> Option<NodeView>
         ensures { result ≡ option_map (view_of bound) (node_at self.now.nodes place) }
     {
-        view_at(&self.branches, &self.routes, place, bound)
-    }
-}
-
-fn first_of(routes: &[Route], prefix: &Prefix, bound: Option<u16>) -> Option<Route>
-    ensures { result ≡ first_of (filter (λ r. same_prefix r.prefix prefix.now) routes.now) bound }
-{
-    for route in routes {
-        if is_meant(route, prefix, bound) {
-            return Some(*route);
-        }
-    }
-    None
-}
-
-fn is_meant(route: &Route, prefix: &Prefix, bound: Option<u16>) -> bool
-    ensures { result ≡ (same_prefix route.now.prefix prefix.now && suits (link_of route.now.out) bound) }
-{
-    same_prefix(&route.prefix, prefix) && suits(route.out.link(), bound)
-}
-
-fn suits(route_link: Option<u16>, bound: Option<u16>) -> bool
-    ensures { result ≡ suits route_link bound }
-{
-    match (route_link, bound) {
-        (Some(link), Some(bound)) => link == bound,
-        (None, _) | (Some(_), None) => true,
-    }
-}
-
-fn slot(branches: &[Option<Branch>], place: usize) -> Option<Option<Branch>>
-    ensures { result ≡ slice_get branches.now place }
-{
-    branches.get(place).copied()
-}
-
-pub(crate) fn held(branches: &[Option<Branch>], place: usize) -> Option<Branch>
-    ensures { result ≡ held branches.now place }
-{
-    match slot(branches, place) {
-        Some(branch) => branch,
-        None => None,
+        view_at(&self.branches, &self.chains, place, bound)
     }
 }
 
 fn view_at(
     branches: &[Option<Branch>],
-    routes: &[Route],
+    chains: &RouteChains,
     place: usize,
     bound: Option<u16>,
 ) -> Option<NodeView>
-    ensures { result ≡ option_map (view_of bound) (node_at (nodes_of routes.now branches.now) place) }
+    requires filed { AreFiled branches.now chains.now.entries }
+    requires reached { AreReached branches.now }
+    requires chains { length branches.now ≤ chains.now.chains }
+    ensures { result ≡ option_map (view_of bound) (node_at (nodes_of (routes_of chains.now.entries) branches.now) place) }
 {
     match held(branches, place) {
         Some(branch) => Some(NodeView {
             prefix: branch.prefix,
             zero: branch.zero,
             one: branch.one,
-            first: first_of(routes, &branch.prefix, bound),
+            first: chains.first(place, bound),
         }),
         None => None,
     }

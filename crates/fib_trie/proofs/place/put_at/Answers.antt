@@ -1,6 +1,6 @@
 use Rattle.std.proofs.Common.{sym, arith}
 use Rattle.fib_trie.proofs.Put.{made_here, child_stands}
-use Rattle.fib_trie.proofs.place.put.Goals as goal
+use Rattle.fib_trie.proofs.place.put_at.Goals as goal
 
 pub returns-then-len-clause-made : goal.returns-then-len-clause-made
 returns-then-len-clause-made c =
