@@ -4,14 +4,8 @@ use borrow.Author.Tests.{eqb-true}
 use Rattle.std.proofs.lemmas.List.Folds.{list_any-append}
 use Rattle.std.specs.Char.{digit_value}
 use Rattle.std.specs.Str.Parse.{AllDigits}
+use Rattle.std.proofs.lemmas.Bool.{or_parts, or_from}
 use Rattle.addr_text.specs.Forms.{has_byte}
-
-either : (a b : Bool) → (a || b) ≡ false → (a ≡ false) × (b ≡ false)
-either true b e = cc
-either false b e = (refl, e)
-
-or_false : (a b : Bool) → a ≡ false → b ≡ false → (a || b) ≡ false
-or_false a b p q = rw (p, q)
 
 pub has_byte-here : (byte : ℕ) (left right : List ℕ) → has_byte byte (left ++ byte ∷ right) ≡ true
 has_byte-here byte [] right = ap (λ (b : Bool). b || has_byte byte right) (eq-eqb byte byte refl)
@@ -22,22 +16,22 @@ has_byte-here byte (x ∷ left) right = by (eqb x byte) (has_byte-here byte left
     by false rest = rest
 
 pub has_byte-append : (byte : ℕ) (left right : List ℕ) → has_byte byte left ≡ false → has_byte byte right ≡ false → has_byte byte (left ++ right) ≡ false
-has_byte-append byte left right l r = list_any-append (λ b. eqb b byte) left right ∙ or_false _ _ l r
+has_byte-append byte left right l r = list_any-append (λ b. eqb b byte) left right ∙ or_from _ _ l r
 
 pub has_byte-other : (byte x : ℕ) (xs : List ℕ) → eqb x byte ≡ false → has_byte byte xs ≡ false → has_byte byte (x ∷ xs) ≡ false
-has_byte-other byte x xs e rest = or_false (eqb x byte) (has_byte byte xs) e rest
+has_byte-other byte x xs e rest = or_from (eqb x byte) (has_byte byte xs) e rest
 
 -- a text is cut at the first such byte in one way
 pub cut_once : (byte : ℕ) (a b xs ys : List ℕ) → has_byte byte a ≡ false → has_byte byte b ≡ false → a ++ byte ∷ xs ≡ b ++ byte ∷ ys → (a ≡ b) × (xs ≡ ys)
 cut_once byte [] [] xs ys ha hb e = (refl, cc)
 cut_once byte [] (y ∷ b) xs ys ha hb e =
-    let head : y ≡ byte = cc in absurd (let no : true ≡ false = sym (eq-eqb y byte head) ∙ (either (eqb y byte) (has_byte byte b) hb).0 in cc)
+    let head : y ≡ byte = cc in absurd (let no : true ≡ false = sym (eq-eqb y byte head) ∙ (or_parts (eqb y byte) (has_byte byte b) hb).0 in cc)
 cut_once byte (x ∷ a) [] xs ys ha hb e =
-    let head : x ≡ byte = cc in absurd (let no : true ≡ false = sym (eq-eqb x byte head) ∙ (either (eqb x byte) (has_byte byte a) ha).0 in cc)
+    let head : x ≡ byte = cc in absurd (let no : true ≡ false = sym (eq-eqb x byte head) ∙ (or_parts (eqb x byte) (has_byte byte a) ha).0 in cc)
 cut_once byte (x ∷ a) (y ∷ b) xs ys ha hb e =
     let head : x ≡ y = cc in
     let tail : a ++ byte ∷ xs ≡ b ++ byte ∷ ys = cc in
-    let rest = cut_once byte a b xs ys (either (eqb x byte) (has_byte byte a) ha).1 (either (eqb y byte) (has_byte byte b) hb).1 tail in
+    let rest = cut_once byte a b xs ys (or_parts (eqb x byte) (has_byte byte a) ha).1 (or_parts (eqb y byte) (has_byte byte b) hb).1 tail in
     (let front : a ≡ b = rest.0 in cc, rest.1)
 
 -- a byte that is no digit of the base stands in no numeral

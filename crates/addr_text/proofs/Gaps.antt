@@ -1,6 +1,7 @@
 -- Two colons side by side.
 use Rattle.std.proofs.Common.{◌≡◌, ℕ, ◌+◌, ◌<◌, ◌||◌, ◌&&◌, Bool, true, false, eqb, List, [], ◌∷◌, ◌++◌, length, get_or, refl, ap, sym, ◌∙◌, append_assoc, length-append, arith}
 use Rattle.std.proofs.lemmas.List.{append-nil, get_or_at}
+use Rattle.std.proofs.lemmas.Bool.{or_parts, or_right}
 use Rattle.addr_text.specs.Forms.{has_byte, SpellsParts}
 use Rattle.addr_text.specs.declared.form.Form.TheVariants as form
 use Rattle.addr_text.proofs.Parts.{SpellsPart-clean, SpellsPart-some}
@@ -20,13 +21,9 @@ has_gap [] = false
 has_gap (x ∷ []) = false
 has_gap (x ∷ y ∷ zs) = (eqb x 58 && eqb y 58) || has_gap (y ∷ zs)
 
-either : (a b : Bool) → (a || b) ≡ false → (a ≡ false) × (b ≡ false)
-either true b e = cc
-either false b e = (refl, e)
-
 has_gap-tail : (x : ℕ) (xs : List ℕ) → has_gap (x ∷ xs) ≡ false → has_gap xs ≡ false
 has_gap-tail x [] e = refl
-has_gap-tail x (y ∷ ys) e = (either (eqb x 58 && eqb y 58) (has_gap (y ∷ ys)) e).1
+has_gap-tail x (y ∷ ys) e = (or_parts (eqb x 58 && eqb y 58) (has_gap (y ∷ ys)) e).1
 
 -- a byte that is no colon before a text makes no gap
 has_gap-cons : (x : ℕ) (xs : List ℕ) → eqb x 58 ≡ false → has_gap (x ∷ xs) ≡ has_gap xs
@@ -36,7 +33,7 @@ has_gap-cons x (y ∷ ys) e = ap (λ (b : Bool). (b && eqb y 58) || has_gap (y �
 has_gap-append : (xs ys : List ℕ) → has_byte 58 xs ≡ false → has_gap (xs ++ ys) ≡ has_gap ys
 has_gap-append [] ys lacks = refl
 has_gap-append (x ∷ xs) ys lacks =
-    let two = either (eqb x 58) (has_byte 58 xs) lacks in has_gap-cons x (xs ++ ys) two.0 ∙ has_gap-append xs ys two.1
+    let two = or_parts (eqb x 58) (has_byte 58 xs) lacks in has_gap-cons x (xs ++ ys) two.0 ∙ has_gap-append xs ys two.1
 
 -- nor does a colon before a byte that is none
 has_gap-colon : (x : ℕ) (xs : List ℕ) → eqb x 58 ≡ false → has_gap (58 ∷ x ∷ xs) ≡ has_gap (x ∷ xs)
@@ -46,13 +43,9 @@ pub has_gap-here : (left right : List ℕ) → has_gap (left ++ 58 ∷ 58 ∷ ri
 has_gap-here [] right = refl
 has_gap-here (x ∷ left) right = by (left ++ 58 ∷ 58 ∷ right) (has_gap-here left right)
   where
-    or_true : (a : Bool) → (a || true) ≡ true
-    or_true true = refl
-    or_true false = refl
-
     by : (xs : List ℕ) → has_gap xs ≡ true → has_gap (x ∷ xs) ≡ true
     by [] e = cc
-    by (y ∷ ys) e = ap (λ (b : Bool). (eqb x 58 && eqb y 58) || b) e ∙ or_true (eqb x 58 && eqb y 58)
+    by (y ∷ ys) e = ap (λ (b : Bool). (eqb x 58 && eqb y 58) || b) e ∙ or_right (eqb x 58 && eqb y 58) true refl
 
 -- a text is cut at a gap in one way, where there is no other
 pub cut_gap : (l m r s : List ℕ) → l ++ 58 ∷ 58 ∷ r ≡ m ++ 58 ∷ 58 ∷ s → has_gap (m ++ 58 ∷ []) ≡ false → has_gap (58 ∷ s) ≡ false → (l ≡ m) × (r ≡ s)
@@ -75,12 +68,12 @@ row_head text x [] spells = head_of text (SpellsPart-some form.Groups text x spe
   where
     head_of : (text : List ℕ) → 0 < length text → has_byte 58 text ≡ false → (y : ℕ) × (ys : List ℕ) × (text ≡ y ∷ ys) × (eqb y 58 ≡ false)
     head_of [] some lacks = absurd (omega arith)
-    head_of (y ∷ ys) some lacks = (y, ys, refl, (either (eqb y 58) (has_byte 58 ys) lacks).0)
+    head_of (y ∷ ys) some lacks = (y, ys, refl, (or_parts (eqb y 58) (has_byte 58 ys) lacks).0)
 row_head text x (y ∷ ys) spells = first spells.0 (SpellsPart-some form.Groups spells.0 x spells.3) (SpellsPart-clean form.Groups 58 spells.0 x (omega arith) spells.3) spells.2
   where
     first : (one : List ℕ) → 0 < length one → has_byte 58 one ≡ false → text ≡ one ++ 58 ∷ spells.1 → (z : ℕ) × (zs : List ℕ) × (text ≡ z ∷ zs) × (eqb z 58 ≡ false)
     first [] some lacks cut = absurd (omega arith)
-    first (z ∷ one) some lacks cut = (z, one ++ 58 ∷ spells.1, cut, (either (eqb z 58) (has_byte 58 one) lacks).0)
+    first (z ∷ one) some lacks cut = (z, one ++ 58 ∷ spells.1, cut, (or_parts (eqb z 58) (has_byte 58 one) lacks).0)
 
 after_colon : (text more : List ℕ) (x : ℕ) (xs : List ℕ) → SpellsParts form.Groups text (x ∷ xs) → has_gap (58 ∷ (text ++ more)) ≡ has_gap (text ++ more)
 after_colon text more x xs spells =

@@ -1,11 +1,12 @@
 -- The texts of the parts of an address.
-use Rattle.std.proofs.Common.{◌≡◌, ℕ, ◌-◌, ◌<◌, ◌≤◌, ◌^◌, false, List, [], ◌∷◌, ◌++◌, length, take, drop, get_or, sym, ap, ◌∙◌, refl, arith}
+use Rattle.std.proofs.Common.{◌≡◌, ℕ, ◌-◌, ◌<◌, ◌≤◌, ◌^◌, false, List, [], ◌∷◌, ◌++◌, length, take, drop, get_or, sym, ap, ◌∙◌, arith}
 use Rattle.std.proofs.Math.Nat.{pow-le-pow_right}
 use Rattle.std.proofs.lemmas.Int.Digits.{digits_value-lt}
 use Rattle.std.proofs.lemmas.List.{append-nil}
 use Rattle.std.specs.Char.{digit_value}
 use Rattle.std.specs.List.{flat_map}
 use Rattle.std.specs.Str.Parse.{digits_value}
+use Rattle.std.proofs.Math.Seq.{take-length}
 use Rattle.addr_text.specs.Canonical.{row_text}
 use Rattle.addr_text.specs.Forms.{has_byte, part_text, parts_text, separator_of, SpellsPart}
 use Rattle.addr_text.specs.Grammar.{SpellsGroup}
@@ -50,9 +51,5 @@ pub parts_text-first : (f : Form) (parts : List ℕ) → 0 < length parts →
 parts_text-first f [] some = absurd (omega arith)
 parts_text-first f (x ∷ xs) some =
     ap (λ (k : ℕ). part_text f x ++ flat_map (λ (part : ℕ). separator_of f ∷ part_text f part) (take k xs)) {x = length (x ∷ xs) - 1} {y = length xs} (omega arith)
-    ∙ ap (λ (ys : List ℕ). part_text f x ++ flat_map (λ (part : ℕ). separator_of f ∷ part_text f part) ys) (take-all xs)
+    ∙ ap (λ (ys : List ℕ). part_text f x ++ flat_map (λ (part : ℕ). separator_of f ∷ part_text f part) ys) (take-length xs)
     ∙ sym (row_text-first (part_text f) (separator_of f) x xs)
-  where
-    take-all : (ys : List ℕ) → take (length ys) ys ≡ ys
-    take-all [] = refl
-    take-all (y ∷ ys) = ap (λ (zs : List ℕ). y ∷ zs) (take-all ys)

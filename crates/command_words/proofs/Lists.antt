@@ -1,6 +1,6 @@
 -- The texts of lists, by the pieces between their commas.
-use Rattle.std.proofs.Common.{◌≡◌, ◌∙◌, ◌++◌, ◌==◌, ◌||◌, ℕ, zero, suc, ◌+◌, ◌<◌, ◌≤◌, ◌^◌, Bool, true, false, List, [], ◌∷◌, None, refl, sym, ap, ap₂, subst, if◌then◌else◌, length, map, All, arith, slice_index}
-use Rattle.std.proofs.lemmas.Bool.{eqb-true}
+use Rattle.std.proofs.Common.{◌≡◌, ◌∙◌, ◌++◌, ◌==◌, ◌||◌, ℕ, zero, suc, ◌+◌, ◌<◌, ◌≤◌, ◌^◌, Bool, false, List, [], ◌∷◌, None, refl, sym, ap, ap₂, subst, if◌then◌else◌, length, map, All, arith, slice_index}
+use Rattle.std.proofs.lemmas.Bool.{ne_eqb}
 use Rattle.std.proofs.lemmas.Bool.Decides.{nat_tests}
 use Rattle.std.proofs.lemmas.List.Elements.{All-nil, All-cons, All-head, All-tail}
 use Rattle.std.proofs.lemmas.List.Splits.{slice_split_none, slice_split_at, join_with_byte-slice_split, length-slice_split}
@@ -40,18 +40,11 @@ digit_low d small = grind (arith, nat_tests)
 digit_high : (d : ℕ) → digit_value d < 10 → d ≤ 57
 digit_high d small = grind (arith, nat_tests)
 
-not_equal : (a b : ℕ) → (a ≡ b → ⊥) → (a == b) ≡ false
-not_equal a b other = by (a == b) refl
-  where
-    by : (c : Bool) → (a == b) ≡ c → c ≡ false
-    by true e = absurd (other (eqb-true a b e))
-    by false e = refl
-
 all_no_comma : (ds : Text) → AllDigits 10 ds → All (λ b. (b == 44) ≡ false) ds
 all_no_comma [] all = All-nil (λ b. (b == 44) ≡ false)
 all_no_comma (d ∷ ds) all =
     let low : 48 ≤ d = digit_low d all.0 in
-    All-cons (λ b. (b == 44) ≡ false) d ds (not_equal d 44 (λ e. omega arith)) (all_no_comma ds all.1)
+    All-cons (λ b. (b == 44) ≡ false) d ds (ne_eqb d 44 (λ e. omega arith)) (all_no_comma ds all.1)
 
 fits : (n : ℕ) → n ≤ 4294967295 → n < 2 ^ 64
 fits n small = omega arith
@@ -202,8 +195,8 @@ list_plain text ns h =
     let b = list_begins text ns h in
     let low : 48 ≤ b.first = b.low in
     let high : b.first ≤ 57 = b.high in
-    let dash : (b.first == 45) ≡ false = not_equal b.first 45 (λ e. omega arith) in
-    let other : (b.first == 104) ≡ false = not_equal b.first 104 (λ e. omega arith) in
+    let dash : (b.first == 45) ≡ false = ne_eqb b.first 45 (λ e. omega arith) in
+    let other : (b.first == 104) ≡ false = ne_eqb b.first 104 (λ e. omega arith) in
     ap word_of b.whole
     ∙ ap₂ (λ (x y : Bool). if x || y then stranger else text_word (b.first ∷ b.rest)) (no_dash b.first b.rest dash) (no_help b.first b.rest dash other)
     ∙ text_plain (b.first ∷ b.rest) (no_long b.first b.rest dash)

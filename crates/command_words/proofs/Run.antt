@@ -2,6 +2,8 @@
 use Rattle.std.proofs.Common.{◌≡◌, ◌∙◌, ◌||◌, ◌++◌, Bool, true, false, cond, List, [], ◌∷◌, Option, Some, None, codes, refl, ap, find, if◌then◌else◌, is_some, append-nil, option_and_then, slice_get}
 use Rattle.std.specs.Str.{bytes_eq}
 use Rattle.std.specs.List.{list_any}
+use Rattle.std.proofs.lemmas.List.Folds.{list_any-append}
+use Rattle.std.proofs.lemmas.Bool.{or_right}
 use Rattle.clap.specs.Lexer.{long_of}
 use Rattle.clap.specs.Walk.{Row, walked, has_row, first_of, at_row, without, with_values, more_values, reading_by}
 use Rattle.clap.specs.declared.builder.value_parser.Reading.{Reading}
@@ -111,14 +113,6 @@ idle_end_rows rows p false false ha hb = rw (ha, hb) refl
 
 -- ---- rows
 
-any-append : (p : Row → Bool) (xs ys : List Row) → list_any p (xs ++ ys) ≡ (list_any p xs || list_any p ys)
-any-append p [] ys = refl
-any-append p (x ∷ xs) ys = by (p x) (any-append p xs ys)
-  where
-    by : (b : Bool) → list_any p (xs ++ ys) ≡ (list_any p xs || list_any p ys) → (b || list_any p (xs ++ ys)) ≡ ((b || list_any p xs) || list_any p ys)
-    by true ih = refl
-    by false ih = ih
-
 find-append_left : (p : Row → Bool) (xs ys : List Row) → list_any p ys ≡ false → find p (xs ++ ys) ≡ find p xs
 find-append_left p [] ys none = nothing ys none
   where
@@ -173,10 +167,6 @@ holds_nothing = record { has = λ o. has o; first = λ o. first o }
     first refuse = refl
     first broken = refl
 
-or_true : (b : Bool) → (b || true) ≡ true
-or_true true = refl
-or_true false = refl
-
 or_false : (b : Bool) → (b || false) ≡ b
 or_false true = refl
 or_false false = refl
@@ -193,15 +183,15 @@ holds_use o t rs g h none =
     let new : has_row (name_of o) rs ≡ false = h.has o ∙ ap is_some none in
     let is : after_use o t rs ≡ rs ++ after_use o t [] = use_new o t rs new in
     record {
-      has = λ q. ap (has_row (name_of q)) is ∙ any-append (is_named (name_of q)) rs (after_use o t []) ∙ has_either o q (has_row (name_of q) rs) (h.has q);
+      has = λ q. ap (has_row (name_of q)) is ∙ list_any-append (is_named (name_of q)) rs (after_use o t []) ∙ has_either o q (has_row (name_of q) rs) (h.has q);
       first = λ q. ap (first_of (name_of q)) is ∙ first_either o q new;
     }
   where
     has_either : (a q : Which) (b : Bool) → b ≡ is_some (given_of g q) → (b || has_row (name_of q) (after_use a t [])) ≡ is_some (given_of (with_given g a t) q)
-    has_either refuse refuse b e = or_true b
+    has_either refuse refuse b e = or_right b true refl
     has_either refuse broken b e = or_false b ∙ e
     has_either broken refuse b e = or_false b ∙ e
-    has_either broken broken b e = or_true b
+    has_either broken broken b e = or_right b true refl
 
     first_either : (a q : Which) → has_row (name_of a) rs ≡ false → first_of (name_of q) (rs ++ after_use a t []) ≡ given_of (with_given g a t) q
     first_either refuse refuse e = ap first_in (find-append_right (is_named (codes "refuse")) rs (after_use refuse t []) e)

@@ -1,7 +1,7 @@
 -- What a word looks like, as `clap` and as the forms see it.
 use Rattle.std.proofs.Common.{◌≡◌, ◌∙◌, ◌==◌, ◌++◌, ◌+◌, ℕ, suc, Bool, true, false, [], ◌∷◌, Option, Some, None, codes, refl, sym, ap, if◌then◌else◌, take, drop, length, option_and_then, not, ◌||◌, arith, ap₂}
 use Rattle.std.proofs.lemmas.Slice.Eq.{bytes_eq-Decides}
-use Rattle.std.proofs.lemmas.Bool.{eqb-true}
+use Rattle.std.proofs.lemmas.Bool.{eqb-true, or_parts}
 use Rattle.std.specs.Str.{bytes_eq}
 use Rattle.std.specs.List.{position_or_len}
 use Rattle.clap.specs.Lexer.{long_of, long_of_rest, short_of, short_of_rest, strip_byte, has_byte, name_and_value}
@@ -156,10 +156,6 @@ clean_dashed (x ∷ xs) e = by (x == 45) refl e
     by false t h = (rw t refl, rw t refl)
     by true t h = let clean = rest_clean xs h in (rw t clean.0, rw t clean.1)
 
-either_false : (a b : Bool) → (a || b) ≡ false → (a ≡ false) × (b ≡ false)
-either_false true b e = cc
-either_false false b e = (refl, e)
-
 -- the same of a word that is not refused
 pub clean_from : (w : Text) → is_refused w ≡ false → (bytes_eq w (codes "--") ≡ false) × (short_of w ≡ None)
-clean_from w e = clean_dashed w (either_false (is_dashed w) (is_help w) e).0
+clean_from w e = clean_dashed w (or_parts (is_dashed w) (is_help w) e).0

@@ -6,9 +6,10 @@ use Rattle.std.specs.Fmt.{decimal, digits, digits_onto, digit_glyph}
 use Rattle.std.specs.List.{list_any}
 use Rattle.std.specs.Str.Parse.{AllDigits, digits_value_after}
 use Rattle.std.proofs.lemmas.Fmt.{digits_is_IsNumeral}
-use Rattle.std.proofs.lemmas.List.{append-nil}
+use Rattle.std.proofs.lemmas.List.{append-nil, nil_from_length}
 use Rattle.std.proofs.lemmas.Bool.Decides.{nat_tests}
 use borrow.Author.Tests.{eqb-true, eqb-false}
+use Rattle.std.proofs.lemmas.Bool.{or_parts}
 use Rattle.number_text.specs.Numbers.{hexadecimal, HasNoLeadingZero, SpellsInBase, SpellsDecimal, SpellsHexadecimal}
 use Rattle.number_text.proofs.Written.{digits_one, digits_last, digits-fuel}
 
@@ -98,10 +99,6 @@ length-digits-le base k n low some most fits =
     let same : length (digits base false n) ≡ length (digits_onto k base false n []) = ap length (digits-fuel base k n (omega arith) some most fits) in
     omega arith
 
-empty : (xs : List ℕ) → length xs ≡ 0 → xs ≡ []
-empty [] e = refl
-empty (x ∷ xs) e = absurd (omega arith)
-
 -- more digits make no smaller number
 after-ge : (base n : ℕ) (ds : List ℕ) → 0 < base → n ≤ digits_value_after base n ds
 after-ge base n [] some = omega arith
@@ -124,16 +121,12 @@ digits-push base n d low high some below lower small =
     ∙ ap (λ (r : ℕ). digits base false n ++ digit_glyph false r ∷ []) last
     ∙ ap (λ (x : ℕ). digits base false n ++ x ∷ []) (glyph_of_value d (omega arith) lower)
 
-either : (a b : Bool) → (a || b) ≡ false → (a ≡ false) × (b ≡ false)
-either true b e = cc
-either false b e = (refl, e)
-
 -- further digits behind those of a number but 0
 digits-after : (base n : ℕ) (ds : List ℕ) → 2 ≤ base → base ≤ 16 → 0 < n → AllDigits base ds → list_any is_ascii_uppercase ds ≡ false →
     digits_value_after base n ds < 2 ^ 64 → digits base false (digits_value_after base n ds) ≡ digits base false n ++ ds
 digits-after base n [] low high some all lower small = sym (append-nil (digits base false n))
 digits-after base n (d ∷ ds) low high some all lower small =
-    let two = either (is_ascii_uppercase d) (list_any is_ascii_uppercase ds) lower in
+    let two = or_parts (is_ascii_uppercase d) (list_any is_ascii_uppercase ds) lower in
     let large : 1 * base ≤ n * base = mul-le-mul_right base some in
     let more : n * base + digit_value d ≤ digits_value_after base (n * base + digit_value d) ds = after-ge base (n * base + digit_value d) ds (omega arith) in
     digits-after base (n * base + digit_value d) ds low high (omega arith) all.1 two.1 small
@@ -146,7 +139,7 @@ digits-of_spelled base n [] low high small lower spells = absurd (let some = spe
 digits-of_spelled base n (d ∷ ds) low high small lower spells = by (digit_value d) refl
   where
     two : (is_ascii_uppercase d ≡ false) × (list_any is_ascii_uppercase ds ≡ false)
-    two = either (is_ascii_uppercase d) (list_any is_ascii_uppercase ds) lower
+    two = or_parts (is_ascii_uppercase d) (list_any is_ascii_uppercase ds) lower
 
     glyph : digit_glyph false (digit_value d) ≡ d
     glyph = let below : digit_value d < base = spells.numeral.1.0 in glyph_of_value d (omega arith) two.0
@@ -161,7 +154,7 @@ digits-of_spelled base n (d ∷ ds) low high small lower spells = by (digit_valu
     by zero e =
         let is_zero : d ≡ 48 = sym glyph ∙ ap (λ (v : ℕ). digit_glyph false v) e in
         let alone : length (d ∷ ds) ≡ 1 = spells.plain is_zero in
-        let none : ds ≡ [] = empty ds (omega arith) in
+        let none : ds ≡ [] = nil_from_length ds (omega arith) in
         let number : n ≡ 0 = sym value ∙ ap (λ (xs : List ℕ). digits_value_after base (digit_value d) xs) none ∙ e in
         let text : d ∷ ds ≡ 48 ∷ [] = ap (λ (x : ℕ). x ∷ ds) is_zero ∙ ap (λ (xs : List ℕ). 48 ∷ xs) none in
         text ∙ sym (ap (λ (m : ℕ). digits base false m) number ∙ digits_one base 0 (omega arith))
