@@ -4,7 +4,8 @@ import dataclasses
 
 @dataclasses.dataclass(frozen=True)
 class Case:
-    """The words after the program's name, and what it is to answer. A stream is a path in place of a pipe, or 'closed'."""
+    """The words after the program's name, and what it is to answer. A stream is a pipe, a path, 'closed', or
+    a pipe with 'no reader'."""
 
     name: str
     stdin: bytes = b""

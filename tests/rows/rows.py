@@ -28,6 +28,7 @@ def edge_cases():
     yield Case("input-closed", status=4, source="closed")
     yield Case("output-full", line, status=5, sink="/dev/full")
     yield Case("output-closed", line, status=5, sink="closed")
+    yield Case("output-without-a-reader", line, status=5, sink="no reader")
     yield Case("output-full-for-the-usage", status=5, words=(), sink="/dev/full")
     yield Case("output-full-of-nothing", status=0, sink="/dev/full")
     yield Case("input-is-a-folder-for-the-usage", b"", USAGE, 2, (), source="/")
@@ -37,20 +38,29 @@ def closing(*descriptors):
     return lambda: [os.close(descriptor) for descriptor in descriptors]
 
 
+def opened(stream, mode):
+    """What stands for a stream of the program."""
+    if stream == "pipe":
+        return subprocess.PIPE
+    if stream == "no reader":
+        reader, writer = os.pipe()
+        os.close(reader)
+        return writer
+    return os.open(os.devnull if stream == "closed" else stream, mode)
+
+
 def run(program, case):
-    """Runs the program on the row's streams: a pipe, a path in its place, or nothing where it is closed."""
-    source = subprocess.PIPE if case.source == "pipe" else os.open(os.devnull if case.source == "closed" else case.source, os.O_RDONLY)
-    sink = subprocess.PIPE if case.sink == "pipe" else os.open(os.devnull if case.sink == "closed" else case.sink, os.O_WRONLY)
-    closed = [number for number, stream in ((0, case.source), (1, case.sink)) if stream == "closed"]
+    """Runs the program on the row's streams, and gives what it wrote and its status."""
+    streams = opened(case.source, os.O_RDONLY), opened(case.sink, os.O_WRONLY)
+    closed = [number for number, stream in enumerate((case.source, case.sink)) if stream == "closed"]
     try:
         process = subprocess.Popen(
-            [program, *case.words], stdin=source, stdout=sink, stderr=subprocess.PIPE, preexec_fn=closing(*closed)
+            [program, *case.words], stdin=streams[0], stdout=streams[1], stderr=subprocess.PIPE, preexec_fn=closing(*closed)
         )
-        given = case.stdin if case.source == "pipe" else None
-        stdout, stderr = process.communicate(given, timeout=120)
+        stdout, stderr = process.communicate(case.stdin if case.source == "pipe" else None, timeout=120)
         return stdout or b"", stderr, process.returncode
     finally:
-        for stream in (source, sink):
+        for stream in streams:
             if stream != subprocess.PIPE:
                 os.close(stream)
 

@@ -13,4 +13,5 @@ mod write;
 
 pub use laws::{one_value, recommended_text, what_is_written};
 pub use read::{read_addr, read_prefix};
+pub use split::split_at_byte;
 pub use write::{write_addr, write_prefix};

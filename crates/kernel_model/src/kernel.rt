@@ -2,12 +2,13 @@ ghost use Rattle.std.specs.Prelude.{◌≡◌, ℕ, ◌+◌, ◌<◌, ◌≤◌,
 ghost use Rattle.kernel_model.specs.declared.request.Request.TheVariants as req;
 ghost use Rattle.kernel_model.specs.State.{is_absent, is_present, rules_of, routes_of};
 ghost use Rattle.kernel_model.specs.Walk.{walk};
+ghost use Rattle.prefixes.specs.Best.{best};
 ghost use Rattle.kernel_model.specs.View.{KernelView, state_of, Room, grown, used, IsSound};
 ghost use Rattle.kernel_model.specs.Journal.{entry};
 ghost use Rattle.kernel_model.specs.declared.request.EntryKind.TheVariants.{Added, Deleted, Refused, Broken};
 
 use crate::request::{Entry, Request};
-use prefixes::{Family, Route};
+use prefixes::{Addr, Family, Route};
 use rule_match::{Packet, Rule, Verdict};
 use std::alloc::AllocError;
 
@@ -85,6 +86,11 @@ pub trait Kernel {
     /// The route at a place of a table, from 0.
     fn route_at(&self, table: u32, place: u64) -> Option<Route>
         ensures { result ≡ slice_get (routes_of table (state_of (seen self.now)).tables) place };
+
+    /// The best route of a table for a packet to this destination, bound to this link or to none. A throw is given as a
+    /// route.
+    fn lookup(&self, table: u32, dest: Addr, bound: Option<u16>) -> Option<Route>
+        ensures { result ≡ best (routes_of table (state_of (seen self.now)).tables) dest bound };
 
     fn entry_count(&self) -> u64
         ensures { result ≡ length (seen self.now).journal };

@@ -3,7 +3,7 @@ use Rattle.std.specs.Prelude.{ℕ, List, ◌++◌, codes}
 use Rattle.rule_match.specs.declared.verdict.Verdict.{Verdict}
 use Rattle.kernel_model.specs.declared.step.Step.{Step}
 use Rattle.policy_state.specs.View.{StateView}
-use Rattle.script_reader.specs.Canonical.{mark_text}
+use Rattle.word_text.specs.Texts.{mark_text}
 use Rattle.report_text.specs.Trails.{trail_text}
 use Rattle.report_text.specs.Verdicts.{verdict_text}
 use Rattle.turn_text.specs.Texts.{line_feed}

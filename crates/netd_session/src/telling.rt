@@ -22,9 +22,9 @@ use policy_state::State;
 use prefixes::Family;
 use report_text::{write_networks, write_rules, write_table, write_trail, write_verdict};
 use rule_match::{Packet, Verdict};
-use script_reader::write_mark;
 use std::alloc::{AllocError, Global};
 use turn_text::{write_line_number, write_refused};
+use word_text::write_mark;
 
 // Appends the text of a packet's way.
 fn write_way(

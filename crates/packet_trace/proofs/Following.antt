@@ -1,14 +1,9 @@
--- One route or one rule more.
+-- One rule more.
 use Rattle.std.proofs.Common.{◌≡◌, ℕ, zero, suc, ◌+◌, true, false, inl, inr, List, [], ◌∷◌, ◌++◌, take, drop, Option, Some, None, is_some, slice_get, refl, sym, ◌∙◌, ap, add-one, append_assoc}
 use Rattle.std.specs.Bool.{if◌then◌else◌}
 use Rattle.std.proofs.lemmas.Bool.{cases_Bool}
 use Rattle.std.proofs.lemmas.List.{append-nil}
 use Rattle.std.proofs.lemmas.Option.{none-some, same_Some}
-use Rattle.prefixes.specs.Best.{best, longer_of}
-use Rattle.prefixes.specs.Route.{fits}
-use Rattle.prefixes.specs.declared.addr.Addr.{Addr}
-use Rattle.prefixes.specs.declared.route.Route.{Route}
-use Rattle.prefixes.proofs.Bests.{best-append, best-one}
 use Rattle.rule_match.specs.Rule.{matches}
 use Rattle.rule_match.specs.declared.packet.Packet.{Packet}
 use Rattle.rule_match.specs.declared.rule.Rule.{Rule}
@@ -31,13 +26,6 @@ drop_next {X = X} xs i x h = rw add-one (go xs i h)
     go [] i h = absurd (none-some x h)
     go (y ∷ ys) zero h = ap (λ z. z ∷ ys) (same_Some y x h)
     go (y ∷ ys) (suc i) h = go ys i h
-
-pub best_next : (routes : List Route) (i : ℕ) (r : Route) (dest : Addr) (bound : Option ℕ) (found new : Option Route) → slice_get routes i ≡ Some r
-    → found ≡ best (take i routes) dest bound → new ≡ longer_of found (if fits r dest bound then Some r else None) → new ≡ best (take (i + 1) routes) dest bound
-best_next routes i r dest bound found new there so_far is =
-    is ∙ ap (λ o. longer_of o (if fits r dest bound then Some r else None)) so_far
-    ∙ sym (ap (λ rs. best rs dest bound) (take_next routes i r there) ∙ best-append (take i routes) (r ∷ []) dest bound
-    ∙ ap (longer_of (best (take i routes) dest bound)) (best-one r dest bound))
 
 module _ (tables : List NumberedTable) (packet : Packet) where
   abbrev pub noted : Rule → List Step

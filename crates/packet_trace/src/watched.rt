@@ -5,7 +5,7 @@ ghost use Rattle.kernel_model.specs.View.{state_of};
 ghost use Rattle.kernel_model.specs.Walk.{walk};
 
 use kernel_model::{Entry, Kernel, KernelFault};
-use prefixes::{Family, Route};
+use prefixes::{Addr, Family, Route};
 use rule_match::{Packet, Rule, Verdict, same_verdict};
 use std::alloc::{AllocError, Global};
 
@@ -177,6 +177,10 @@ impl<'a, K: Kernel> Kernel for Watched<'a, K> {
 
     fn route_at(&self, table: u32, place: u64) -> Option<Route> {
         self.inner.route_at(table, place)
+    }
+
+    fn lookup(&self, table: u32, dest: Addr, bound: Option<u16>) -> Option<Route> {
+        self.inner.lookup(table, dest, bound)
     }
 
     fn entry_count(&self) -> u64 {

@@ -5,8 +5,8 @@ use Rattle.networks.specs.declared.network.Kind.{Kind}
 use Rattle.networks.specs.declared.network.Kind.TheVariants as kind
 use Rattle.networks.specs.declared.network.Network.{Network}
 use Rattle.policy_state.specs.View.{StateView}
-use Rattle.script_reader.specs.Canonical.{line_feed, range_text}
-use Rattle.script_reader.specs.Grammar.{permission_text}
+use Rattle.word_text.specs.Texts.{line_feed, range_text}
+use Rattle.word_text.specs.Grammar.{permission_text}
 use Rattle.uid_ranges.specs.declared.range.UidRange.{UidRange}
 use Rattle.report_text.specs.Links.{link_text}
 use Rattle.report_text.specs.Lists.{listed}

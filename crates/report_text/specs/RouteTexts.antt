@@ -7,7 +7,7 @@ use Rattle.prefixes.specs.declared.prefix.Prefix.{Prefix}
 use Rattle.prefixes.specs.declared.route.Out.{Out}
 use Rattle.prefixes.specs.declared.route.Out.TheVariants as out
 use Rattle.prefixes.specs.declared.route.Route.{Route}
-use Rattle.script_reader.specs.Canonical.{line_feed}
+use Rattle.word_text.specs.Texts.{line_feed}
 use Rattle.report_text.specs.Links.{link_text}
 use Rattle.report_text.specs.Verdicts.{gateway_text}
 

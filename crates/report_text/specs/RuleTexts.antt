@@ -3,7 +3,7 @@ use Rattle.std.specs.Prelude.{ℕ, ◌==◌, if◌then◌else◌, List, [], ◌�
 use Rattle.std.specs.Fmt.{decimal}
 use Rattle.policy_state.specs.View.{StateView}
 use Rattle.rule_match.specs.declared.rule.Rule.{Rule}
-use Rattle.script_reader.specs.Canonical.{line_feed, mark_text, range_text}
+use Rattle.word_text.specs.Texts.{line_feed, mark_text, range_text}
 use Rattle.uid_ranges.specs.declared.range.UidRange.{UidRange}
 use Rattle.report_text.specs.Actions.{action_text}
 use Rattle.report_text.specs.Links.{link_text}

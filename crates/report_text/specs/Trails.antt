@@ -2,7 +2,7 @@
 use Rattle.std.specs.Prelude.{ℕ, List, [], ◌∷◌, ◌++◌, codes, flat_map}
 use Rattle.std.specs.Fmt.{decimal}
 use Rattle.kernel_model.specs.declared.step.Step.{Step}
-use Rattle.script_reader.specs.Canonical.{line_feed}
+use Rattle.word_text.specs.Texts.{line_feed}
 use Rattle.report_text.specs.Actions.{action_text}
 
 -- a line of a rule: two spaces, its priority, and what it does

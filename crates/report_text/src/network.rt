@@ -11,7 +11,7 @@ ghost use Rattle.report_text.specs.NetworkTexts.{
   ranges_text,
   security_text,
 };
-ghost use Rattle.script_reader.specs.Canonical.{range_text};
+ghost use Rattle.word_text.specs.Texts.{range_text};
 ghost use Rattle.std.specs.Prelude.{◌≡◌, ◌<◌, ◌∷◌, Some, drop, flat_map, length, slice_get};
 ghost use Rattle.uid_ranges.specs.declared.range.UidRange.{UidRange};
 
@@ -19,9 +19,9 @@ use crate::link::write_link;
 use networks::{Kind, Network, Networks};
 use number_text::{append_byte, append_bytes, write_decimal};
 use policy_state::State;
-use script_reader::{write_permission, write_range};
 use std::alloc::AllocError;
 use uid_ranges::{RangeList, UidRange};
+use word_text::{write_permission, write_range};
 
 fn write_next_name(state: &State, link: u16, out: &mut Vec<u8>) -> Result<(), AllocError>
     ensures { Appends out.old out.new result (comma ∷ link_text state.now link) }

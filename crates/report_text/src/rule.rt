@@ -6,9 +6,9 @@ use crate::trail::write_action;
 use number_text::{append_byte, append_bytes};
 use policy_state::State;
 use rule_match::Rule;
-use script_reader::{write_mark, write_number, write_range};
 use std::alloc::AllocError;
 use uid_ranges::UidRange;
+use word_text::{write_mark, write_number, write_range};
 
 fn write_masked(mark: u32, mask: u32, out: &mut Vec<u8>) -> Result<(), AllocError>
     ensures { Appends out.old out.new result (masked_text mark mask) }

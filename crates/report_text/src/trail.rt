@@ -7,8 +7,8 @@ use kernel_model::Step;
 use number_text::{append_byte, append_bytes};
 use packet_trace::Trail;
 use rule_match::Action;
-use script_reader::write_number;
 use std::alloc::AllocError;
+use word_text::write_number;
 
 /// Appends what a rule does.
 pub fn write_action(action: Action, out: &mut Vec<u8>) -> Result<(), AllocError>

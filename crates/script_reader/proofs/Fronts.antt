@@ -1,19 +1,9 @@
 -- Words that begin a line of a form.
-use Rattle.std.proofs.Common.{◌≡◌, ℕ, ◌+◌, ◌<◌, ◌≤◌, ◌^◌, ◌||◌, Bool, true, false, suc, cond, codes, List, [], ◌∷◌, ◌++◌, length, refl, ap, subst, inl, inr, arith}
-use Rattle.std.specs.Fmt.{decimal}
-use Rattle.addr_text.specs.Canonical.{canonical, canonical_prefix}
-use Rattle.addr_text.proofs.Written.{canonical_prefix_spelled, canonical_spelled}
-use Rattle.fwmark.specs.declared.permission.Permission.TheVariants.{Nothing}
-use Rattle.number_text.proofs.Spelled.{SpellsDecimal-decimal}
-use Rattle.prefixes.specs.declared.addr.Addr.TheVariants as address
-use Rattle.prefixes.specs.declared.prefix.Prefix.{Prefix}
-use Rattle.uid_ranges.specs.declared.range.Uid.{Uid}
+use Rattle.std.proofs.Common.{◌≡◌, ℕ, ◌+◌, ◌<◌, ◌≤◌, ◌||◌, Bool, true, false, suc, cond, List, [], ◌∷◌, ◌++◌, length, refl, ap, subst, inl, inr, arith}
+use Rattle.word_text.proofs.Samples.{sample}
+use Rattle.word_text.specs.Grammar.{Kind, ValueOf, Values, AreSpelled, IsSpelled}
 use Rattle.script_reader.specs.Cursor.{Stops}
-use Rattle.script_reader.specs.Grammar.{Count, Counts, Kind, ValueOf, AreSpelled, IsSpelled, any_net, index, net, table, count, literal, name, permission, uid, range, mark, addr, prefix}
 use Rattle.script_reader.specs.Words.{Word, texts, word_at, words_from, is_space, is_no_space}
-use Rattle.script_reader.proofs.FormTable.{Values, pieces_with}
-use Rattle.script_reader.specs.Canonical.{mark_text, range_text}
-use Rattle.script_reader.proofs.Written.{SpellsUid-decimal, SpellsRange-text, SpellsMark-text}
 
 -- the words are the first ones of these kinds
 abbrev pub Fronts : List Kind → List (List ℕ) → Type 0
@@ -21,32 +11,7 @@ Fronts kinds [] = Unit {0}
 Fronts [] (text ∷ others) = ⊥
 Fronts (kind ∷ kinds) (text ∷ others) = ((value : ValueOf kind) × IsSpelled kind value text) × Fronts kinds others
 
-abbrev root : Uid
-root = record { number = 0; in_range = omega arith }
-
--- each count has a number
-least : (what : Count) → (number : ℕ) × Counts what number × (number < 2 ^ 64)
-least index = (2, (omega arith, omega arith), omega arith)
-least net = (0, (omega arith, λ same. absurd (omega (arith, same))), omega arith)
-least any_net = (0, omega arith, omega arith)
-least table = (0, omega arith, omega arith)
-
-abbrev everything : Prefix
-everything = record { base = address.V4 0; len = 0; is_prefix = (omega arith, refl) }
-
--- each kind has a word
-sample : (kind : Kind) → (value : ValueOf kind) × (text : List ℕ) × IsSpelled kind value text
-sample (literal text) = (tt, text, refl)
-sample (count what) = let some = least what in (some.0, decimal some.0, (SpellsDecimal-decimal some.0 some.2, some.1))
-sample name = (codes "lo", codes "lo", (refl, refl))
-sample permission = (Nothing, codes "none", refl)
-sample uid = (root, decimal 0, SpellsUid-decimal root)
-sample range = (record { first = root; last = root; ordered = omega arith }, range_text root root, SpellsRange-text (record { first = root; last = root; ordered = omega arith }))
-sample mark = (0, mark_text 0, SpellsMark-text 0 (omega arith))
-sample addr = (address.V4 0, canonical (address.V4 0), canonical_spelled (address.V4 0) (omega arith))
-sample prefix = (everything, canonical_prefix everything, canonical_prefix_spelled everything (omega arith))
-
-samples : (kinds : List Kind) → (values : Values kinds) × (words : List (List ℕ)) × AreSpelled (pieces_with kinds values) words
+samples : (kinds : List Kind) → (values : Values kinds) × (words : List (List ℕ)) × AreSpelled kinds values words
 samples [] = (tt, [], tt)
 samples (kind ∷ kinds) =
     let one = sample kind in
@@ -55,7 +20,7 @@ samples (kind ∷ kinds) =
 
 -- the first words can be continued
 pub continued : (kinds : List Kind) (words : List (List ℕ)) → Fronts kinds words →
-    (values : Values kinds) × (others : List (List ℕ)) × AreSpelled (pieces_with kinds values) (words ++ others)
+    (values : Values kinds) × (others : List (List ℕ)) × AreSpelled kinds values (words ++ others)
 continued kinds [] fronts = samples kinds
 continued [] (text ∷ words) fronts = absurd fronts
 continued (kind ∷ kinds) (text ∷ words) fronts =
@@ -63,7 +28,7 @@ continued (kind ∷ kinds) (text ∷ words) fronts =
     ((fronts.0.0, others.0), others.1, (fronts.0.1, others.2))
 
 -- what says a line begins with its first words
-pub fronts_of : (kinds : List Kind) (values : Values kinds) (words others : List (List ℕ)) → AreSpelled (pieces_with kinds values) (words ++ others) → Fronts kinds words
+pub fronts_of : (kinds : List Kind) (values : Values kinds) (words others : List (List ℕ)) → AreSpelled kinds values (words ++ others) → Fronts kinds words
 fronts_of kinds values [] others spelled = tt
 fronts_of [] values (text ∷ words) others spelled = absurd spelled
 fronts_of (kind ∷ kinds) values (text ∷ words) others spelled = ((values.0, spelled.0), fronts_of kinds values.1 words others spelled.1)
@@ -96,7 +61,7 @@ cut_where (kind ∷ kinds) (word ∷ words) end column (inr stops) =
     }
 
 -- words that stop being of these kinds aren't of them
-pub stops_no_line : (kinds : List Kind) (values : Values kinds) (words : List Word) (end column : ℕ) → Stops kinds words end column → AreSpelled (pieces_with kinds values) (texts words) → ⊥
+pub stops_no_line : (kinds : List Kind) (values : Values kinds) (words : List Word) (end column : ℕ) → Stops kinds words end column → AreSpelled kinds values (texts words) → ⊥
 stops_no_line [] values [] end column stops spelled = stops
 stops_no_line [] values (word ∷ words) end column stops spelled = spelled
 stops_no_line (kind ∷ kinds) values [] end column stops spelled = spelled

@@ -1,14 +1,21 @@
 -- Words with one space between each two.
-use Rattle.std.proofs.Common.{◌≡◌, ℕ, ◌+◌, ◌<◌, ◌==◌, ◌&&◌, Bool, true, false, not, cond, suc, List, [], ◌∷◌, ◌++◌, length, refl, sym, ap, ◌∙◌, subst, arith}
+use Rattle.std.proofs.Common.{◌≡◌, ℕ, ◌+◌, ◌<◌, ◌==◌, Bool, true, false, not, cond, suc, List, [], ◌∷◌, ◌++◌, length, refl, sym, ap, ◌∙◌, subst, arith}
+use Rattle.std.proofs.lemmas.Bool.Decides.{nat_tests}
 use Rattle.std.proofs.lemmas.List.{append-nil}
 use Rattle.std.proofs.lemmas.List.Folds.{list_all-append}
 use Rattle.std.proofs.lemmas.List.Sums.{take_while-cons}
 use Rattle.std.specs.List.{join_with_byte, list_all}
 use Rattle.script_reader.specs.Lines.{is_printable}
 use Rattle.script_reader.specs.Words.{Word, is_no_space, texts, word_at, words_from}
-use Rattle.script_reader.proofs.Graphic.{IsGraphic, graphic_no_space, graphic_printed, is_graphic}
-use Rattle.script_reader.proofs.OneLine.{both_true}
+use Rattle.word_text.proofs.Graphic.{IsGraphic, is_graphic}
+use Rattle.word_text.proofs.Tests.{both, both_true}
 use Rattle.script_reader.proofs.WordLemmas.{words_from-begins, words_from-space, words_from-within}
+
+graphic_printed : (byte : ℕ) → is_graphic byte ≡ true → is_printable byte ≡ true
+graphic_printed byte e = grind (arith, nat_tests)
+
+graphic_no_space : (byte : ℕ) → is_graphic byte ≡ true → is_no_space byte ≡ true
+graphic_no_space byte e = grind (arith, nat_tests)
 
 abbrev pub AreGraphic : List (List ℕ) → Type 0
 AreGraphic [] = Unit {0}
@@ -63,9 +70,6 @@ words_joined column (word ∷ next ∷ words) graphic =
     first_word column word (32 ∷ join_with_byte 32 (next ∷ words)) graphic.0 refl
     ∙ ap (λ (ws : List Word). word ∷ texts ws) (words_from-space (column + length word) true 32 (join_with_byte 32 (next ∷ words)) refl)
     ∙ ap (λ (ts : List (List ℕ)). word ∷ ts) (words_joined (suc (column + length word)) (next ∷ words) graphic.1)
-
-both : (a b : Bool) → a ≡ true → b ≡ true → (a && b) ≡ true
-both a b p q = rw (p, q) refl
 
 printed_word : (word : List ℕ) → list_all is_graphic word ≡ true → list_all is_printable word ≡ true
 printed_word [] all = refl

@@ -1,11 +1,11 @@
 -- A bad line goes wrong in one column.
 use Rattle.std.proofs.Common.{◌≡◌, ℕ, ◌<◌, ◌≤◌, true, false, List, [], ◌∷◌, ◌++◌, length, refl, sym, ap, ◌∙◌, subst, inl, inr, arith, append_assoc}
 use Rattle.std.specs.List.{list_all}
-use Rattle.script_reader.specs.BadLines.{Begins, HasBadByte, HasBadWord, IsBadAt, IsTooLong, IsUnfinished}
-use Rattle.script_reader.specs.Lines.{IsText, Says, is_printable}
+use Rattle.word_text.proofs.Tests.{both_true}
+use Rattle.script_reader.specs.BadLines.{Begins, GoesWrong, HasBadByte, HasBadWord, IsTooLong, IsUnfinished}
+use Rattle.script_reader.specs.Lines.{IsText, is_printable}
 use Rattle.script_reader.specs.Words.{Word, texts}
 use Rattle.script_reader.proofs.LineOutcomes.{not_all, texts_cut}
-use Rattle.script_reader.proofs.OneLine.{both_true}
 
 -- two first bytes that aren't printed
 first_bad : (before behind before' behind' : List ℕ) (byte byte' : ℕ) → before ++ byte ∷ behind ≡ before' ++ byte' ∷ behind' →
@@ -27,9 +27,8 @@ first_bad (x ∷ before) behind (y ∷ before') behind' byte byte' e p b p' b' =
 abbrev IsClosed : (List (List ℕ) → Type 0) → Type 0
 IsClosed Fact = (first others : List (List ℕ)) → Fact (first ++ others) → Fact first
 
-begins_closed : IsClosed Begins
-begins_closed first others begins =
-    (begins.0, others ++ begins.1, subst (Says begins.0) (append_assoc first others begins.1) begins.2)
+begins_closed : (IsLine : List (List ℕ) → Type 0) → IsClosed (Begins IsLine)
+begins_closed IsLine first others begins = (others ++ begins.0, subst IsLine (append_assoc first others begins.0) begins.1)
 
 -- two words up to which it doesn't hold, and before which it does
 one_place : (Fact : List (List ℕ) → Type 0) → IsClosed Fact → (before behind before' behind' : List Word) (word word' : Word) →
@@ -52,34 +51,34 @@ one_place Fact closed (x ∷ before) behind (y ∷ before') behind' word word' e
 byte_and_text : (text : List ℕ) (a : ℕ) → HasBadByte text a → IsText text → ⊥
 byte_and_text text a byte is_text = not_all byte.before byte.byte byte.behind byte.bad (ap (list_all is_printable) (sym byte.cut) ∙ is_text.printable)
 
-word_and_end : (text : List ℕ) (a b : ℕ) → HasBadWord text a → IsUnfinished text b → ⊥
-word_and_end text a b word short =
-    word.ends (begins_closed (texts (word.before ++ word.word ∷ [])) (texts word.behind)
-    (subst Begins (ap texts word.cut ∙ texts_cut word.before word.word word.behind) short.begins))
+word_and_end : (IsLine : List (List ℕ) → Type 0) (text : List ℕ) (a b : ℕ) → HasBadWord IsLine text a → IsUnfinished IsLine text b → ⊥
+word_and_end IsLine text a b word short =
+    word.ends (begins_closed IsLine (texts (word.before ++ word.word ∷ [])) (texts word.behind)
+    (subst (Begins IsLine) (ap texts word.cut ∙ texts_cut word.before word.word word.behind) short.begins))
 
 long_and_short : (text : List ℕ) (a : ℕ) → IsTooLong text a → length text ≤ 512 → ⊥
 long_and_short text a long short = let over : 512 < length text = long.0 in omega arith
 
-pub one_column : (text : List ℕ) (a b : ℕ) → IsBadAt text a → IsBadAt text b → a ≡ b
-one_column text a b (inl long) (inl long') = long.1 ∙ sym long'.1
-one_column text a b (inl long) (inr (inl byte)) = absurd (long_and_short text a long byte.short)
-one_column text a b (inl long) (inr (inr (inl word))) = absurd (long_and_short text a long word.is_text.short)
-one_column text a b (inl long) (inr (inr (inr short))) = absurd (long_and_short text a long short.is_text.short)
-one_column text a b (inr (inl byte)) (inl long) = absurd (long_and_short text b long byte.short)
-one_column text a b (inr (inl byte)) (inr (inl byte')) =
+pub one_column : (IsLine : List (List ℕ) → Type 0) (text : List ℕ) (a b : ℕ) → GoesWrong IsLine text a → GoesWrong IsLine text b → a ≡ b
+one_column IsLine text a b (inl long) (inl long') = long.1 ∙ sym long'.1
+one_column IsLine text a b (inl long) (inr (inl byte)) = absurd (long_and_short text a long byte.short)
+one_column IsLine text a b (inl long) (inr (inr (inl word))) = absurd (long_and_short text a long word.is_text.short)
+one_column IsLine text a b (inl long) (inr (inr (inr short))) = absurd (long_and_short text a long short.is_text.short)
+one_column IsLine text a b (inr (inl byte)) (inl long) = absurd (long_and_short text b long byte.short)
+one_column IsLine text a b (inr (inl byte)) (inr (inl byte')) =
     let same : length byte.before ≡ length byte'.before =
     first_bad byte.before byte.behind byte'.before byte'.behind byte.byte byte'.byte (sym byte.cut ∙ byte'.cut) byte.printable byte.bad byte'.printable byte'.bad in
     omega (arith, byte.place, byte'.place)
-one_column text a b (inr (inl byte)) (inr (inr (inl word))) = absurd (byte_and_text text a byte word.is_text)
-one_column text a b (inr (inl byte)) (inr (inr (inr short))) = absurd (byte_and_text text a byte short.is_text)
-one_column text a b (inr (inr (inl word))) (inl long) = absurd (long_and_short text b long word.is_text.short)
-one_column text a b (inr (inr (inl word))) (inr (inl byte)) = absurd (byte_and_text text b byte word.is_text)
-one_column text a b (inr (inr (inl word))) (inr (inr (inl word'))) =
+one_column IsLine text a b (inr (inl byte)) (inr (inr (inl word))) = absurd (byte_and_text text a byte word.is_text)
+one_column IsLine text a b (inr (inl byte)) (inr (inr (inr short))) = absurd (byte_and_text text a byte short.is_text)
+one_column IsLine text a b (inr (inr (inl word))) (inl long) = absurd (long_and_short text b long word.is_text.short)
+one_column IsLine text a b (inr (inr (inl word))) (inr (inl byte)) = absurd (byte_and_text text b byte word.is_text)
+one_column IsLine text a b (inr (inr (inl word))) (inr (inr (inl word'))) =
     word.place
-    ∙ one_place Begins begins_closed word.before word.behind word'.before word'.behind word.word word'.word (sym word.cut ∙ word'.cut) word.begins word.ends word'.begins word'.ends
+    ∙ one_place (Begins IsLine) (begins_closed IsLine) word.before word.behind word'.before word'.behind word.word word'.word (sym word.cut ∙ word'.cut) word.begins word.ends word'.begins word'.ends
     ∙ sym word'.place
-one_column text a b (inr (inr (inl word))) (inr (inr (inr short))) = absurd (word_and_end text a b word short)
-one_column text a b (inr (inr (inr short))) (inl long) = absurd (long_and_short text b long short.is_text.short)
-one_column text a b (inr (inr (inr short))) (inr (inl byte)) = absurd (byte_and_text text b byte short.is_text)
-one_column text a b (inr (inr (inr short))) (inr (inr (inl word))) = absurd (word_and_end text b a word short)
-one_column text a b (inr (inr (inr short))) (inr (inr (inr short'))) = short.place ∙ sym short'.place
+one_column IsLine text a b (inr (inr (inl word))) (inr (inr (inr short))) = absurd (word_and_end IsLine text a b word short)
+one_column IsLine text a b (inr (inr (inr short))) (inl long) = absurd (long_and_short text b long short.is_text.short)
+one_column IsLine text a b (inr (inr (inr short))) (inr (inl byte)) = absurd (byte_and_text text b byte short.is_text)
+one_column IsLine text a b (inr (inr (inr short))) (inr (inr (inl word))) = absurd (word_and_end IsLine text b a word short)
+one_column IsLine text a b (inr (inr (inr short))) (inr (inr (inr short'))) = short.place ∙ sym short'.place

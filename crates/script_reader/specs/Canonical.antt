@@ -1,73 +1,61 @@
 -- The one text that is written for a line.
-use Rattle.std.specs.Prelude.{◌≡◌, ℕ, ◌<◌, ◌≤◌, ◌^◌, true, List, [], ◌∷◌, ◌++◌, codes, length, map}
-use Rattle.std.specs.Fmt.{decimal}
+use Rattle.std.specs.Prelude.{◌≡◌, ℕ, ◌≤◌, ◌⊎◌, List, [], ◌∷◌, ◌++◌, length}
+use Rattle.std.proofs.Common.{inl, inr}
 use Rattle.std.specs.List.{join_with_byte}
-use Rattle.addr_text.specs.Canonical.{canonical as addr_text, canonical_prefix}
-use Rattle.net_names.specs.Name.{is_name}
-use Rattle.number_text.specs.Numbers.{hexadecimal}
-use Rattle.prefixes.specs.Addr.{IsAddr}
-use Rattle.uid_ranges.specs.declared.range.Uid.{Uid}
+use Rattle.uid_ranges.specs.declared.range.UidRange.{UidRange}
+use Rattle.word_text.specs.Grammar.{Kind, Values}
+use Rattle.word_text.specs.Kinds.{kind_of}
+use Rattle.word_text.specs.Slots.{slot}
+use Rattle.word_text.specs.Texts.{IsWithin, line_feed, value_text}
+use Rattle.word_text.specs.declared.kind.Kind.{Kind as Coded}
+use Rattle.word_text.specs.declared.values.Values.{Values as Slots}
 use Rattle.script_reader.specs.declared.line.Line.{Line}
 use Rattle.script_reader.specs.declared.line.Line.TheVariants as line
-use Rattle.script_reader.specs.Grammar.{Kind, Piece, ValueOf, Counts, permission_text, dash, literal, count, name, permission, uid, range, mark, addr, prefix}
-use Rattle.script_reader.specs.Lines.{line_limit, pieces_of}
+use Rattle.script_reader.specs.Lines.{line_limit}
+use Rattle.script_reader.specs.Parts.{Parts, parts_of}
+use Rattle.script_reader.specs.Rows.{kinds_of}
 use Rattle.script_reader.specs.Words.{space}
 
-abbrev pub range_text : Uid → Uid → List ℕ
-range_text first last = decimal first.number ++ dash ∷ decimal last.number
+abbrev pub values_text : (kinds : List Kind) → Values kinds → List (List ℕ)
+values_text [] values = []
+values_text (kind ∷ kinds) values = value_text kind values.0 ∷ values_text kinds values.1
 
-abbrev pub mark_text : ℕ → List ℕ
-mark_text bits = codes "0x" ++ hexadecimal bits
+-- the words with one space between each two
+abbrev pub line_text : (kinds : List Kind) → Values kinds → List ℕ
+line_text kinds values = join_with_byte space (values_text kinds values)
 
-abbrev pub value_text : (kind : Kind) → ValueOf kind → List ℕ
-value_text (literal text) value = text
-value_text (count what) value = decimal value
-value_text name value = value
-value_text permission value = permission_text value
-value_text uid value = decimal value.number
-value_text range value = range_text value.first value.last
-value_text mark value = mark_text value
-value_text addr value = addr_text value
-value_text prefix value = canonical_prefix value
+-- the same of the values by name, as the code writes them
+abbrev pub words_text : List Coded → Slots → List UidRange → List ℕ
+words_text [] v list = []
+words_text (kind ∷ []) v list = value_text (kind_of kind) (slot (kind_of kind) v list)
+words_text (kind ∷ next ∷ more) v list = value_text (kind_of kind) (slot (kind_of kind) v list) ++ space ∷ words_text (next ∷ more) v list
 
-abbrev pub piece_text : Piece → List ℕ
-piece_text piece = value_text piece.kind piece.value
+abbrev pub AreWithin : (kinds : List Kind) → Values kinds → Type 0
+AreWithin [] values = Unit {0}
+AreWithin (kind ∷ kinds) values = IsWithin kind values.0 × AreWithin kinds values.1
 
--- the words with one space between each two; nothing for a line that says nothing
+abbrev pub text_of : {l : Line} → (l ≡ line.Blank) ⊎ Parts l → List ℕ
+text_of (inl blank) = []
+text_of (inr parts) = line_text (kinds_of parts.form) parts.values
+
+-- nothing for a line that says nothing
 abbrev pub canonical : Line → List ℕ
-canonical line = join_with_byte space (map piece_text (pieces_of line))
+canonical l = text_of (parts_of l)
 
--- the words with a space before each
-abbrev pub spaced : List Piece → List ℕ
-spaced [] = []
-spaced (piece ∷ pieces) = space ∷ piece_text piece ++ spaced pieces
+abbrev pub IsWithinLine : {l : Line} → (l ≡ line.Blank) ⊎ Parts l → Type 0
+IsWithinLine (inl blank) = Unit {0}
+IsWithinLine (inr parts) = AreWithin (kinds_of parts.form) parts.values
 
--- the value lies within the form of its word
-abbrev pub IsWithin : (kind : Kind) → ValueOf kind → Type 0
-IsWithin (literal text) value = Unit {0}
-IsWithin (count what) value = Counts what value
-IsWithin name value = is_name value ≡ true
-IsWithin permission value = Unit {0}
-IsWithin uid value = value.number ≤ 4294967294
-IsWithin range value = (value.first.number ≤ value.last.number) × (value.last.number ≤ 4294967294)
-IsWithin mark value = value < 2 ^ 32
-IsWithin addr value = IsAddr value
-IsWithin prefix value = IsAddr value.base
-
-abbrev pub AreWithin : List Piece → Type 0
-AreWithin [] = Unit {0}
-AreWithin (piece ∷ pieces) = IsWithin piece.kind piece.value × AreWithin pieces
-
--- a line that has a canonical text
+-- a line that has a canonical text: each value lies within the form of its word
 pub record IsSayable (l : Line) : Type 0 where
   pub filled : l ≡ line.Blank → ⊥
-  pub within : AreWithin (pieces_of l)
+  pub within : IsWithinLine (parts_of l)
   pub short : length (canonical l) ≤ line_limit
 
-abbrev pub line_feed : ℕ
-line_feed = 10
+abbrev pub printed_of : {l : Line} → (l ≡ line.Blank) ⊎ Parts l → List ℕ
+printed_of (inl blank) = []
+printed_of (inr parts) = line_text (kinds_of parts.form) parts.values ++ line_feed ∷ []
 
--- the same with a line feed; nothing for a line that says nothing
+-- the canonical text and a line feed; nothing for a line that says nothing
 abbrev pub printed : Line → List ℕ
-printed line.Blank = []
-printed line = canonical line ++ line_feed ∷ []
+printed l = printed_of (parts_of l)

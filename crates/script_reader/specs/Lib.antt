@@ -1,7 +1,9 @@
 pub mod Words
-pub mod Grammar
+pub mod Languages
+pub mod Cursor
+pub mod Rows
 pub mod Lines
 pub mod BadLines
-pub mod Cursor
-pub mod Forms
+pub mod Finds
+pub mod Parts
 pub mod Canonical

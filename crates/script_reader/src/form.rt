@@ -1,18 +1,7 @@
-ghost use Rattle.script_reader.specs.Forms.{ReadsAny};
+ghost use Rattle.std.specs.Prelude.{◌≡◌};
+ghost use Rattle.word_text.specs.Kinds.{kinds_in};
 
-use crate::control::{
-    create_physical, interface_add, link_add, link_remove, lockdown_add, lockdown_remove,
-    permission_network,
-};
-use crate::fault::LineFault;
-use crate::line::Line;
-use crate::route::{
-    route_add, route_add_throw, route_add_unreachable, route_add_via, route_remove,
-    route_remove_special,
-};
-use crate::show::{show_networks, show_rules_4, show_rules_6, show_table};
-use crate::trace::{packet, packet_on};
-use crate::words::Words;
+use word_text::Kind;
 
 /// The forms of lines.
 #[derive(Clone, Copy)]
@@ -62,47 +51,34 @@ pub const FORMS: [Form; 19] = [
 ];
 
 impl Form {
-    ghost use Rattle.script_reader.specs.Forms.{Reads};
+    ghost use Rattle.script_reader.specs.Rows.{kinds_of};
 
-    /// The line of this form that the words say.
-    fn read(self, words: Words<'_>) -> Result<Line, LineFault>
-        ensures { Reads self words.entry result }
+    /// The words of this form.
+    #[rattlefmt::skip]
+    pub fn kinds(self) -> &'static [Kind]
+        ensures { kinds_in result.now ≡ kinds_of self }
     {
+        use word_text::Kind::{Addr, Index, Mark, Name, Net, Permission, Prefix, Range, Table, Uid, Word};
         match self {
-            Form::LinkAdd => link_add(words),
-            Form::LinkRemove => link_remove(words),
-            Form::CreatePhysical => create_physical(words),
-            Form::InterfaceAdd => interface_add(words),
-            Form::RouteAdd => route_add(words),
-            Form::RouteAddVia => route_add_via(words),
-            Form::RouteAddUnreachable => route_add_unreachable(words),
-            Form::RouteAddThrow => route_add_throw(words),
-            Form::RouteRemove => route_remove(words),
-            Form::RouteRemoveSpecial => route_remove_special(words),
-            Form::PermissionNetwork => permission_network(words),
-            Form::LockdownAdd => lockdown_add(words),
-            Form::LockdownRemove => lockdown_remove(words),
-            Form::Packet => packet(words),
-            Form::PacketOn => packet_on(words),
-            Form::ShowRules4 => show_rules_4(words),
-            Form::ShowRules6 => show_rules_6(words),
-            Form::ShowTable => show_table(words),
-            Form::ShowNetworks => show_networks(words),
+            Form::LinkAdd => &[Word(b"link"), Word(b"add"), Name, Index],
+            Form::LinkRemove => &[Word(b"link"), Word(b"remove"), Name],
+            Form::CreatePhysical => &[Word(b"network"), Word(b"create"), Net, Word(b"physical"), Permission],
+            Form::InterfaceAdd => &[Word(b"interface"), Word(b"add"), Net, Name],
+            Form::RouteAdd => &[Word(b"route"), Word(b"add"), Net, Name, Prefix],
+            Form::RouteAddVia => &[Word(b"route"), Word(b"add"), Net, Name, Prefix, Word(b"via"), Addr],
+            Form::RouteAddUnreachable => &[Word(b"route"), Word(b"add"), Net, Name, Prefix, Word(b"unreachable")],
+            Form::RouteAddThrow => &[Word(b"route"), Word(b"add"), Net, Name, Prefix, Word(b"throw")],
+            Form::RouteRemove => &[Word(b"route"), Word(b"remove"), Net, Name, Prefix],
+            Form::RouteRemoveSpecial => &[Word(b"route"), Word(b"remove"), Net, Name, Prefix, Word(b"special")],
+            Form::PermissionNetwork => &[Word(b"permission"), Word(b"network"), Net, Permission],
+            Form::LockdownAdd => &[Word(b"lockdown"), Word(b"add"), Range],
+            Form::LockdownRemove => &[Word(b"lockdown"), Word(b"remove"), Range],
+            Form::Packet => &[Word(b"packet"), Uid, Mark, Addr],
+            Form::PacketOn => &[Word(b"packet"), Uid, Mark, Addr, Word(b"on"), Name],
+            Form::ShowRules4 => &[Word(b"show"), Word(b"rules"), Word(b"4")],
+            Form::ShowRules6 => &[Word(b"show"), Word(b"rules"), Word(b"6")],
+            Form::ShowTable => &[Word(b"show"), Word(b"table"), Table],
+            Form::ShowNetworks => &[Word(b"show"), Word(b"networks")],
         }
     }
-}
-
-/// The line that the words say. A fault is where the form that fits farthest stops.
-pub fn read_words(words: Words<'_>) -> Result<Line, LineFault>
-    ensures { ReadsAny words.entry result }
-{
-    let mut farthest: u32 = 0;
-    for form in FORMS {
-        match form.read(words) {
-            Ok(line) => return Ok(line),
-            Err(LineFault::Bad { column }) => farthest = farthest.max(column),
-            Err(fault) => return Err(fault),
-        }
-    }
-    Err(LineFault::Bad { column: farthest })
 }

@@ -1,5 +1,5 @@
+use commands::Command;
 use net_names::Name;
-use policy_state::Command;
 use prefixes::{Addr, Family};
 use uid_ranges::Uid;
 

@@ -45,21 +45,19 @@ fn columns(rt: HostRuntime) -> Result<(), Fail> {
 #[test]
 fn columns_of_links_and_routes(rt: HostRuntime) -> Result<(), Fail> {
     let alloc = rt.alloc();
-    let rows: [(&[u8], u32); 16] = [
+    let rows: [(&[u8], u32); 14] = [
         (b"link add wlan0", 15),
         (b"link add abcdefghijklmnop 2", 10),
         (b"link add x 1", 12),
         (b"link add x 65536", 12),
         (b"link add wl\xc3", 12),
         (b"network create 65536 physical none", 16),
-        (b"network create 99 physical none", 16),
         (b"network create 100 physical all", 29),
-        (b"interface add 99 wlan0", 15),
+        (b"interface add 65536 wlan0", 15),
         (b"route add 100 wlan0 10.0.0.1/24", 21),
         (b"route add 100 wlan0 10.0.0.0/08", 21),
         (b"route add 100 wlan0 ::/0 via fe80::1/64", 30),
         (b"route add 100 wlan0 ::/0 special", 26),
-        (b"route remove 99 wlan0 ::/0", 14),
         (b"permission network 65536 none", 20),
         (b"show table 4294967296", 12),
     ];
@@ -84,7 +82,7 @@ fn comments(rt: HostRuntime) -> Result<(), Fail> {
 #[test]
 fn canonical_lines(rt: HostRuntime) -> Result<(), Fail> {
     let alloc = rt.alloc();
-    let rows: [(&[u8], &[u8]); 15] = [
+    let rows: [(&[u8], &[u8]); 17] = [
         (
             b"  lockdown  add 0-4294967294 ",
             b"lockdown add 0-4294967294\n",
@@ -106,6 +104,11 @@ fn canonical_lines(rt: HostRuntime) -> Result<(), Fail> {
             b"network create  65535 physical system",
             b"network create 65535 physical system\n",
         ),
+        (
+            b"network create 99  physical none",
+            b"network create 99 physical none\n",
+        ),
+        (b"interface add  99 wlan0", b"interface add 99 wlan0\n"),
         (
             b"permission network 99  network",
             b"permission network 99 network\n",

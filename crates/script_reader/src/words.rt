@@ -2,16 +2,6 @@ ghost use Rattle.std.specs.Prelude.{◌≡◌, ◌≢◌, ◌+◌, ◌≤◌, le
 ghost use Rattle.std.specs.List.{prefix_len};
 ghost use Rattle.script_reader.specs.Words.{is_no_space, is_space, words_from};
 
-use crate::fault::LineFault;
-use crate::values::{
-    read_address, read_any_net, read_destination, read_index, read_literal, read_mark, read_name,
-    read_net, read_permission, read_range, read_table, read_uid,
-};
-use fwmark::Permission;
-use net_names::Name;
-use prefixes::{Addr, Prefix};
-use uid_ranges::{Uid, UidRange};
-
 const SPACE: u8 = b' ';
 
 /// How many bytes the word in front has.
@@ -62,8 +52,7 @@ pub struct Words<'a> {
 }
 
 impl<'a> Words<'a> {
-    ghost use Rattle.script_reader.specs.Cursor.{end_of, words_left, Ends, IsAtEnd, IsNext, Leads, Steps};
-    ghost use Rattle.script_reader.specs.Grammar.{addr, any_net, count, index, literal, mark, name, net, permission, prefix, range, table, uid};
+    ghost use Rattle.script_reader.specs.Cursor.{end_of, words_left, IsAtEnd, IsNext, Leads};
     ghost use Rattle.script_reader.specs.Lines.{IsBlank};
     ghost use Rattle.script_reader.specs.Words.{texts, words_of};
 
@@ -91,17 +80,15 @@ impl<'a> Words<'a> {
         Some(&self.rest[..len])
     }
 
-    /// The fault that the line goes wrong here.
-    fn bad(&self) -> LineFault
-        ensures { result ≡ LineFault.Bad self.now.column }
+    /// The column of the next word, or behind the line.
+    pub fn column(&self) -> u32
+        ensures { result ≡ self.now.column }
     {
-        LineFault::Bad {
-            column: self.column,
-        }
+        self.column
     }
 
     /// Goes behind the next word.
-    fn advance(&mut self)
+    pub fn advance(&mut self)
         ensures { IsNext self.old self.new }
     {
         let place = next_place(self.rest);
@@ -109,155 +96,10 @@ impl<'a> Words<'a> {
         self.column += place as u32;
     }
 
-    /// Goes behind the next word, where it has a value.
-    fn accept<V>(&mut self, value: Option<V>) -> Result<V, LineFault>
-        ensures { MatchOption value
-            ((result ≡ Err (LineFault.Bad self.old.column)) × (self.new ≡ self.old))
-            (λ v. (result ≡ Ok v) × IsNext self.old self.new) }
-    {
-        match value {
-            None => Err(self.bad()),
-            Some(value) => {
-                self.advance();
-                Ok(value)
-            }
-        }
-    }
-
-    /// Goes over this word.
-    pub fn literal(&mut self, text: &[u8]) -> Result<(), LineFault>
-        ensures { Steps (literal text.now) self.old self.new result }
-    {
-        match self.first() {
-            None => Err(self.bad()),
-            Some(word) => self.accept(read_literal(word, text)),
-        }
-    }
-
-    /// Goes over the index of a link.
-    pub fn index(&mut self) -> Result<u16, LineFault>
-        ensures { Steps (count index) self.old self.new result }
-    {
-        match self.first() {
-            None => Err(self.bad()),
-            Some(word) => self.accept(read_index(word)),
-        }
-    }
-
-    /// Goes over the id of a network other than the local one.
-    pub fn net(&mut self) -> Result<u16, LineFault>
-        ensures { Steps (count net) self.old self.new result }
-    {
-        match self.first() {
-            None => Err(self.bad()),
-            Some(word) => self.accept(read_net(word)),
-        }
-    }
-
-    /// Goes over the id of a network.
-    pub fn any_net(&mut self) -> Result<u16, LineFault>
-        ensures { Steps (count any_net) self.old self.new result }
-    {
-        match self.first() {
-            None => Err(self.bad()),
-            Some(word) => self.accept(read_any_net(word)),
-        }
-    }
-
-    /// Goes over the number of a table.
-    pub fn table(&mut self) -> Result<u32, LineFault>
-        ensures { Steps (count table) self.old self.new result }
-    {
-        match self.first() {
-            None => Err(self.bad()),
-            Some(word) => self.accept(read_table(word)),
-        }
-    }
-
-    /// Goes over a name.
-    pub fn name(&mut self) -> Result<Name, LineFault>
-        ensures { Steps name self.old self.new result }
-    {
-        match self.first() {
-            None => Err(self.bad()),
-            Some(word) => self.accept(read_name(word)),
-        }
-    }
-
-    /// Goes over a permission.
-    pub fn permission(&mut self) -> Result<Permission, LineFault>
-        ensures { Steps permission self.old self.new result }
-    {
-        match self.first() {
-            None => Err(self.bad()),
-            Some(word) => self.accept(read_permission(word)),
-        }
-    }
-
-    /// Goes over a UID.
-    pub fn uid(&mut self) -> Result<Uid, LineFault>
-        ensures { Steps uid self.old self.new result }
-    {
-        match self.first() {
-            None => Err(self.bad()),
-            Some(word) => self.accept(read_uid(word)),
-        }
-    }
-
-    /// Goes over a range of UIDs.
-    pub fn range(&mut self) -> Result<UidRange, LineFault>
-        ensures { Steps range self.old self.new result }
-    {
-        match self.first() {
-            None => Err(self.bad()),
-            Some(word) => self.accept(read_range(word)),
-        }
-    }
-
-    /// Goes over a mark.
-    pub fn mark(&mut self) -> Result<u32, LineFault>
-        ensures { Steps mark self.old self.new result }
-    {
-        match self.first() {
-            None => Err(self.bad()),
-            Some(word) => self.accept(read_mark(word)),
-        }
-    }
-
-    /// Goes over an address.
-    pub fn addr(&mut self) -> Result<Addr, LineFault>
-        ensures { Steps addr self.old self.new result }
-    {
-        match self.first() {
-            None => Err(self.bad()),
-            Some(word) => self.accept(read_address(word)),
-        }
-    }
-
-    /// Goes over a prefix.
-    pub fn prefix(&mut self) -> Result<Prefix, LineFault>
-        ensures { Steps prefix self.old self.new result }
-    {
-        match self.first() {
-            None => Err(self.bad()),
-            Some(word) => self.accept(read_destination(word)),
-        }
-    }
-
     /// Whether there is no word, or the first one begins a comment.
     pub fn is_blank(&self) -> bool
         ensures { IsTrue result ↔ IsBlank (texts (words_left self.now)) }
     {
         matches!(self.first(), None | Some([b'#', ..]))
-    }
-
-    /// There is no further word.
-    pub fn end(&self) -> Result<(), LineFault>
-        ensures { Ends self.now result }
-    {
-        match self.first() {
-            None => Ok(()),
-            Some(_) => Err(self.bad()),
-        }
     }
 }

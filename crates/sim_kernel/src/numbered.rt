@@ -2,7 +2,7 @@ ghost use Rattle.std.specs.Prelude.{◌≡◌, [], ◌∷◌, ◌++◌, ◌+◌,
 ghost use Rattle.prefixes.specs.Best.{best};
 ghost use Rattle.fib_table.specs.Table.{has_key, has_route, without_route};
 
-use fib_table::Table;
+use fib_trie::TrieTable;
 use prefixes::{Addr, Route};
 use std::alloc::{AllocError, Global};
 use std::marker::Model;
@@ -11,7 +11,7 @@ use std::marker::Model;
 #[derive(Drop)]
 pub struct NumberedTable {
     number: u32,
-    table: Table,
+    table: TrieTable,
 }
 
 impl Model for NumberedTable {
@@ -30,7 +30,7 @@ impl NumberedTable {
     {
         NumberedTable {
             number,
-            table: Table::new(alloc),
+            table: TrieTable::new(alloc),
         }
     }
 

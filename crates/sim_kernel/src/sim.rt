@@ -9,7 +9,7 @@ ghost use Rattle.sim_kernel.specs.Consistent.{IsConsistent};
 use crate::lists::{insert_rule, is_in, remove_rule};
 use crate::tables::Tables;
 use kernel_model::{Armed, Entry, EntryKind, Kernel, KernelFault, Request, verdict_by};
-use prefixes::{Family, Route};
+use prefixes::{Addr, Family, Route};
 use rule_match::{Action, Packet, Rule, Verdict};
 use std::alloc::{AllocError, Global};
 
@@ -204,6 +204,10 @@ impl Kernel for SimKernel {
 
     fn route_at(&self, table: u32, place: u64) -> Option<Route> {
         self.tables.route_at(table, place as usize)
+    }
+
+    fn lookup(&self, table: u32, dest: Addr, bound: Option<u16>) -> Option<Route> {
+        self.tables.lookup(table, dest, bound)
     }
 
     fn entry_count(&self) -> u64 {

@@ -2,7 +2,7 @@ use Rattle.std.proofs.Common.{◌≡◌, ℕ, ◌+◌, ◌-◌, ◌≤◌, ◌�
 use Rattle.std.proofs.lemmas.List.{take_all}
 use Rattle.std.specs.List.{flat_map}
 use Rattle.number_text.proofs.Appending.{rewritten}
-use Rattle.script_reader.specs.Canonical.{range_text}
+use Rattle.word_text.specs.Texts.{range_text}
 use Rattle.uid_ranges.specs.declared.range.UidRange.{UidRange}
 use Rattle.report_text.specs.Lists.{comma}
 use Rattle.report_text.proofs.InTurn.{one_fails, one_more}

@@ -2,7 +2,7 @@ use Rattle.std.proofs.Common.{◌-◌, Ok, ◌∷◌, drop, take}
 use Rattle.std.specs.List.{flat_map}
 use Rattle.std.specs.declared.alloc.AllocError.{AllocError}
 use Rattle.number_text.specs.Appends.{Appends}
-use Rattle.script_reader.specs.Canonical.{range_text}
+use Rattle.word_text.specs.Texts.{range_text}
 use Rattle.uid_ranges.specs.declared.range.UidRange.{UidRange}
 use Rattle.report_text.specs.Lists.{comma}
 use Rattle.report_text.proofs.network.write_next_ranges.Given as goal

@@ -1,7 +1,7 @@
 use Rattle.std.proofs.Common.{◌∷◌, drop, sym}
 use Rattle.std.specs.List.{flat_map}
 use Rattle.number_text.proofs.Appending.{both, first_failed, rewritten}
-use Rattle.script_reader.specs.Canonical.{range_text}
+use Rattle.word_text.specs.Texts.{range_text}
 use Rattle.uid_ranges.specs.declared.range.UidRange.{UidRange}
 use Rattle.report_text.specs.Lists.{comma}
 use Rattle.report_text.proofs.Joined.{listed-got, listed-none}

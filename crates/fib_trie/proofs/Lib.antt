@@ -1,0 +1,13 @@
+pub mod Adding
+pub mod Between
+pub mod Filed
+pub mod Finding
+pub mod Joins
+pub mod Keeping
+pub mod Makes
+pub mod Placed
+pub mod Put
+pub mod Rooting
+pub mod Shapes
+pub mod Splices
+pub mod Stops

@@ -1,0 +1,6 @@
+pub mod Branches
+pub mod Made
+pub mod Reached
+pub mod Roots
+pub mod Table
+pub mod Ways

@@ -1,0 +1,15 @@
+//! A table of routes, as a trie.
+#![tactic(auto)]
+
+mod branch;
+mod common;
+mod place;
+mod reader;
+mod roots;
+mod table;
+
+pub use reader::NodeReader;
+pub use table::TrieTable;
+
+#[cfg(test)]
+mod tests;

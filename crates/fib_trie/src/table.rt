@@ -1,0 +1,197 @@
+ghost use Rattle.std.specs.Prelude.{◌≡◌, ◌+◌, ◌<◌, ◌≤◌, ◌↔◌, [], ◌∷◌, ◌++◌, Some, length, slice_get, OnOk, IsTrue, IsFalse};
+ghost use Rattle.prefixes.specs.Best.{IsBest, best};
+ghost use Rattle.prefixes.specs.declared.route.Route.{Route};
+ghost use Rattle.fib_table.specs.Table.{has_key, has_route, without_route, are_keys_distinct};
+ghost use Rattle.std.specs.Prelude.{vec_len, vec_capacity};
+ghost use Rattle.std.specs.Option.{option_map};
+ghost use Rattle.fib_search.specs.Node.{node_at, view_of};
+ghost use Rattle.fib_search.specs.Trie.{IsTrie};
+ghost use Rattle.fib_trie.specs.Branches.{nodes_of};
+ghost use Rattle.fib_trie.specs.Reached.{AreFiled, AreReached};
+ghost use Rattle.fib_trie.specs.Table.{routes_of};
+
+use crate::branch::Branch;
+use crate::place::{find_place, make_place};
+use crate::reader::NodeReader;
+use crate::roots::ensure_roots;
+use fib_search::{NodeView, lookup_counted};
+use prefixes::{Addr, Route, same_route};
+use route_chains::{RouteChains, held};
+use std::alloc::{AllocError, Global};
+use std::marker::Model;
+
+// No table has room for more routes.
+const MOST: usize = 1 << 56;
+
+/// Routes in the order of their addition, no two of one key, and the trie of their prefixes.
+#[derive(Drop)]
+pub struct TrieTable {
+    routes: Vec<Route>,
+    branches: Vec<Option<Branch>>,
+    /// A chain for each place of a node.
+    chains: RouteChains,
+    spare: usize,
+}
+
+impl Model for TrieTable {
+    ghost use Rattle.fib_trie.specs.Table.{TrieView};
+
+    ghost Value = { TrieView };
+
+    ghost use Rattle.fib_trie.specs.Branches.{nodes_of};
+    ghost use Rattle.fib_trie.specs.Table.{IsKept};
+
+    ghost view = { λ t. record { routes = t.routes.items; room = t.spare; nodes = nodes_of t.routes.items t.branches.items } };
+
+    ghost invariant = { IsKept };
+}
+
+fn push_route(routes: &mut Vec<Route>, route: Route)
+    requires { vec_len routes.old < vec_capacity routes.old }
+    ensures items { routes.new.items ≡ routes.old.items ++ route ∷ [] }
+    ensures len { vec_len routes.new ≡ vec_len routes.old + 1 }
+    ensures capacity { vec_capacity routes.new ≡ vec_capacity routes.old }
+{
+    let _ = routes.insert(routes.len(), route);
+}
+
+impl TrieTable {
+    /// No routes, and no room.
+    pub fn new(alloc: Global) -> TrieTable
+        ensures { result.routes ≡ [] }
+    {
+        TrieTable {
+            routes: Vec::new(alloc),
+            branches: Vec::new(alloc),
+            chains: RouteChains::new(alloc),
+            spare: 0,
+        }
+    }
+
+    /// Makes room for so many routes more. Out of memory leaves the routes as they are.
+    pub fn reserve(&mut self, more: usize) -> Result<(), AllocError>
+        ensures routes { self.new.routes ≡ self.old.routes }
+        ensures ok { OnOk result (more ≤ self.new.room) }
+        ensures no_less { self.old.room ≤ self.new.room }
+    {
+        if more <= self.spare {
+            return Ok(());
+        }
+        if more > MOST {
+            return Err(AllocError);
+        }
+        match self.routes.reserve(more) {
+            Ok(()) => {}
+            Err(err) => return Err(err),
+        }
+        match self.branches.reserve(2 * more + 2) {
+            Ok(()) => {}
+            Err(err) => return Err(err),
+        }
+        match self
+            .chains
+            .reserve(more, self.branches.len() + 2 * more + 2)
+        {
+            Ok(()) => {}
+            Err(err) => return Err(err),
+        }
+        self.spare = more;
+        Ok(())
+    }
+
+    /// Puts the route last, in the room that is there.
+    pub fn add(&mut self, route: Route)
+        requires absent { IsFalse (has_key self.old.routes route) }
+        requires room { 0 < self.old.room }
+        ensures routes { self.new.routes ≡ self.old.routes ++ route ∷ [] }
+        ensures room { self.new.room + 1 ≡ self.old.room }
+    {
+        ensure_roots(&mut self.branches);
+        let place = make_place(&mut self.branches, route.prefix);
+        self.chains.push(place, route);
+        push_route(&mut self.routes, route);
+        self.spare -= 1;
+    }
+
+    /// How many routes there are.
+    pub fn len(&self) -> usize
+        ensures len { result ≡ length self.now.routes }
+        ensures distinct { IsTrue (are_keys_distinct self.now.routes) }
+    {
+        self.routes.len()
+    }
+
+    /// The route at a place, in the order of addition.
+    pub fn at(&self, place: usize) -> Option<Route>
+        ensures { result ≡ slice_get self.now.routes place }
+    {
+        self.routes.get(place).copied()
+    }
+
+    /// Whether a route of this one's key is there.
+    pub fn has_key(&self, route: &Route) -> bool
+        ensures { result ≡ has_key self.now.routes route.now }
+    {
+        match find_place(&self.branches, route.prefix) {
+            Some(place) => self.chains.has_key(place, route),
+            None => false,
+        }
+    }
+
+    /// Takes the route out.
+    pub fn remove(&mut self, route: &Route)
+        requires { IsTrue (has_route self.old.routes route.now) }
+        ensures routes { self.new.routes ≡ without_route self.old.routes route.now }
+        ensures room { self.old.room ≤ self.new.room }
+    {
+        let Some(place) = find_place(&self.branches, route.prefix) else {
+            return;
+        };
+        self.chains.remove(place, route);
+        self.routes.retain(|other| !same_route(other, route));
+    }
+
+    /// The best route for this destination and binding. A throw is given as a route.
+    pub fn lookup(&self, addr: Addr, bound: Option<u16>) -> Option<Route>
+        ensures value { result ≡ best self.now.routes addr bound }
+        ensures exactly { (r : Route) → (result ≡ Some r) ↔ IsBest self.now.routes addr bound r }
+    {
+        let mut reader = NodeReader::new(self);
+        lookup_counted(&mut reader, addr, bound)
+    }
+
+    /// The trie's invariant, for a reader.
+    pub(crate) fn is_trie(&self)
+        ensures { ∥ IsTrie self.now.nodes self.now.routes ∥₁ }
+    {
+        let _ = &self.branches;
+    }
+
+    pub(crate) fn node(&self, place: usize, bound: Option<u16>) -> Option<NodeView>
+        ensures { result ≡ option_map (view_of bound) (node_at self.now.nodes place) }
+    {
+        view_at(&self.branches, &self.chains, place, bound)
+    }
+}
+
+fn view_at(
+    branches: &[Option<Branch>],
+    chains: &RouteChains,
+    place: usize,
+    bound: Option<u16>,
+) -> Option<NodeView>
+    requires filed { AreFiled branches.now chains.now.entries }
+    requires reached { AreReached branches.now }
+    requires chains { length branches.now ≤ chains.now.chains }
+    ensures { result ≡ option_map (view_of bound) (node_at (nodes_of (routes_of chains.now.entries) branches.now) place) }
+{
+    match held(branches, place) {
+        Some(branch) => Some(NodeView {
+            prefix: branch.prefix,
+            zero: branch.zero,
+            one: branch.one,
+            first: chains.first(place, bound),
+        }),
+        None => None,
+    }
+}

@@ -1,0 +1,5 @@
+pub mod Chains
+pub mod Found
+pub mod Kept
+pub mod Links
+pub mod Places

@@ -1,8 +1,0 @@
-use Rattle.std.proofs.Common.{◌≤◌, length, arith}
-use Rattle.script_reader.proofs.Marks.{mark_gives}
-use Rattle.script_reader.proofs.values.read_mark.Goals as goal
-
-pub returns : goal.returns
-returns c =
-    let few : length c.in_ok-digits.digits.now ≤ 8 = omega arith in
-    mark_gives _ _ c.read_bits.result c.in_ok-digits.ensures few c.read_bits.ensures.some c.read_bits.ensures.none

@@ -1,0 +1,51 @@
+-- Finding the form of words, and reading their values.
+use Rattle.std.specs.Prelude.{◌≡◌, ℕ, ◌≤◌, true, List, Option, None, Some, Result, Ok, Err}
+use Rattle.std.specs.List.{AllByRecursion}
+use Rattle.std.specs.declared.alloc.AllocError.{AllocError}
+use Rattle.uid_ranges.specs.declared.range.UidRange.{UidRange}
+use Rattle.script_reader.specs.declared.form.Form.{Form}
+use Rattle.script_reader.specs.declared.line.Line.{Line}
+use Rattle.word_text.specs.declared.values.Values.{Values as Slots}
+use Rattle.script_reader.specs.declared.words.Words.{Words}
+use Rattle.script_reader.specs.Cursor.{Stops, end_of, words_left}
+use Rattle.word_text.specs.Grammar.{Kind, ValueOf, AreOf, AreSpelled, IsSpelled, Values, has_list, is_list}
+use Rattle.script_reader.specs.Languages.{Language}
+use Rattle.script_reader.specs.Lines.{SaysSo, script}
+use Rattle.script_reader.specs.Rows.{kinds_of}
+use Rattle.word_text.specs.Slots.{filled, list_with, listed, nothing}
+use Rattle.script_reader.specs.Words.{texts}
+
+-- the words stop being of the form, in this column or before it
+abbrev pub StopsBy : (l : Language) → Words → ℕ → l.Form → Type 0
+StopsBy l cursor column form = (stop : ℕ) × Stops (l.kinds_of form) (words_left cursor) (end_of cursor) stop × (stop ≤ column)
+
+-- none of the forms fits past this column, and one fits up to it
+pub record FitsFarthest (l : Language) (cursor : Words) (column : ℕ) : Type 0 where
+  pub each : AllByRecursion (StopsBy l cursor column) l.forms
+  pub form : l.Form
+  pub stops : Stops (l.kinds_of form) (words_left cursor) (end_of cursor) column
+
+-- the form of the words, or where the form that fits farthest stops
+abbrev pub Finds : Words → Result Form ℕ → Type 0
+Finds cursor (Ok form) = AreOf (kinds_of form) (texts (words_left cursor))
+Finds cursor (Err column) = FitsFarthest script cursor column
+
+-- the values of words of these kinds
+abbrev pub ReadsValues : List Kind → List (List ℕ) → Option Slots → Type 0
+ReadsValues kinds words None = AreOf kinds words → ⊥
+ReadsValues kinds words (Some v) = AreOf kinds words → (values : Values kinds) × AreSpelled kinds values words × (v ≡ filled kinds values nothing)
+
+-- the ranges in words of these kinds were appended
+abbrev pub ReadsList : {T : Type 0} → List Kind → List (List ℕ) → List UidRange → List UidRange → Result T AllocError → Type 0
+ReadsList kinds words old new (Ok done) = (values : Values kinds) → AreSpelled kinds values words → new ≡ list_with kinds values old
+ReadsList kinds words old new (Err fault) = has_list kinds ≡ true
+
+-- the ranges in a word of this kind were appended
+abbrev pub TakesList : {T : Type 0} → Kind → List ℕ → List UidRange → List UidRange → Result T AllocError → Type 0
+TakesList kind text old new (Ok done) = (value : ValueOf kind) → IsSpelled kind value text → new ≡ listed kind value old
+TakesList kind text old new (Err fault) = is_list kind ≡ true
+
+-- the line of the words, which are of this form
+abbrev pub ReadsForm : Form → Words → Result Line AllocError → Type 0
+ReadsForm form cursor (Ok line) = SaysSo line (texts (words_left cursor))
+ReadsForm form cursor (Err fault) = has_list (kinds_of form) ≡ true

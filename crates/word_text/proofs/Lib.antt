@@ -1,0 +1,10 @@
+pub mod Tests
+pub mod RangeTexts
+pub mod RangeLists
+pub mod Marks
+pub mod Written
+pub mod Nothing
+pub mod OneValue
+pub mod Graphic
+pub mod Samples
+pub mod Fitting

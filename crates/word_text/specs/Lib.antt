@@ -1,0 +1,5 @@
+pub mod Grammar
+pub mod Vocabulary
+pub mod Kinds
+pub mod Texts
+pub mod Slots

@@ -1,0 +1,115 @@
+ghost use Rattle.std.specs.Prelude.{◌≡◌};
+ghost use Rattle.word_text.specs.Kinds.{kind_of};
+
+use crate::kind::Kind;
+use crate::ranges::are_ranges;
+use crate::read::{
+    read_address, read_destination, read_index, read_mark, read_name, read_net, read_permission,
+    read_range, read_table, read_uid,
+};
+use fwmark::Permission;
+use net_names::Name;
+use prefixes::{Addr, Prefix};
+use uid_ranges::{Uid, UidRange};
+
+/// The values of a line's words by name. What no word of the line gives keeps its first value.
+#[derive(Clone, Copy)]
+pub struct Values {
+    pub name: Name,
+    /// The second name of a line that has two.
+    pub other: Name,
+    pub index: u16,
+    pub net: u16,
+    pub table: u32,
+    pub permission: Permission,
+    pub uid: Uid,
+    pub mark: u32,
+    pub range: UidRange,
+    pub addr: Addr,
+    pub prefix: Prefix,
+}
+
+impl Values {
+    ghost use Rattle.word_text.specs.Slots.{nothing, ReadsValue};
+
+    /// The first values.
+    pub fn nothing() -> Values
+        ensures { result ≡ nothing }
+    {
+        let lo = Name::from_bytes(b"lo").unwrap();
+        let root = Uid { number: 0 };
+        Values {
+            name: lo,
+            other: lo,
+            index: 0,
+            net: 0,
+            table: 0,
+            permission: Permission::Nothing,
+            uid: root,
+            mark: 0,
+            range: UidRange {
+                first: root,
+                last: root,
+            },
+            addr: Addr::V4(0),
+            prefix: Prefix {
+                base: Addr::V4(0),
+                len: 0,
+            },
+        }
+    }
+
+    /// The same with the value that the word spells, by the name of its kind. A list is only looked at.
+    pub fn with(self, kind: Kind, word: &[u8]) -> Option<Values>
+        ensures { ReadsValue (kind_of kind) word.now self result }
+    {
+        match kind {
+            Kind::Word(text) => if word == text { Some(self) } else { None },
+            Kind::Name => Some(Values {
+                name: read_name(word)?,
+                ..self
+            }),
+            Kind::Other => Some(Values {
+                other: read_name(word)?,
+                ..self
+            }),
+            Kind::Index => Some(Values {
+                index: read_index(word)?,
+                ..self
+            }),
+            Kind::Net => Some(Values {
+                net: read_net(word)?,
+                ..self
+            }),
+            Kind::Table => Some(Values {
+                table: read_table(word)?,
+                ..self
+            }),
+            Kind::Permission => Some(Values {
+                permission: read_permission(word)?,
+                ..self
+            }),
+            Kind::Uid => Some(Values {
+                uid: read_uid(word)?,
+                ..self
+            }),
+            Kind::Mark => Some(Values {
+                mark: read_mark(word)?,
+                ..self
+            }),
+            Kind::Range => Some(Values {
+                range: read_range(word)?,
+                ..self
+            }),
+            Kind::Ranges => if are_ranges(word) { Some(self) } else { None },
+            Kind::Addr => Some(Values {
+                addr: read_address(word)?,
+                ..self
+            }),
+            Kind::Prefix => Some(Values {
+                prefix: read_destination(word)?,
+                ..self
+            }),
+        }
+    }
+}
