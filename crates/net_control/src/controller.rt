@@ -62,9 +62,12 @@ fn room_for<K: Kernel>(kernel: &K, plan: &Plan) -> Option<u64>
 {
     let adds = plan.add_count() as u64;
     let deletes = plan.delete_count() as u64;
-    let most = adds.checked_mul(2)?.checked_add(deletes)?;
-    let entries = kernel.entry_count().checked_add(most)?;
-    if entries > JOURNAL_LIMIT {
+    if adds > JOURNAL_LIMIT || deletes > JOURNAL_LIMIT {
+        return None;
+    }
+    let most = 2 * adds + deletes;
+    let entries = kernel.entry_count();
+    if entries > JOURNAL_LIMIT || entries + most > JOURNAL_LIMIT {
         return None;
     }
     Some(most)
