@@ -1,6 +1,7 @@
 -- A kernel by lists after one more entry.
 use Rattle.std.proofs.Common.{◌≡◌, ℕ, ◌+◌, ◌≤◌, true, false, not, List, [], ◌∷◌, ◌++◌, length, sym, ◌∙◌, ap, subst, arith, length-append}
 use Rattle.std.specs.List.{filter}
+use Rattle.list_lemmas.proofs.Anys.{length-filter-le}
 use Rattle.kernel_model.specs.State.{KernelState, NumberedTable, rules_of, start, is_absent, is_present}
 use Rattle.rule_match.specs.declared.rule.Rule.{Rule}
 use Rattle.prefixes.specs.declared.addr.Family.{Family}
@@ -12,7 +13,7 @@ use Rattle.kernel_model.specs.declared.request.EntryKind.{EntryKind}
 use Rattle.kernel_model.specs.declared.request.Entry.{Entry}
 use Rattle.kernel_model.proofs.Replays.{replay-append, well_asked_push}
 use Rattle.sim_kernel.specs.Consistent.{IsConsistent}
-use Rattle.sim_kernel.proofs.Pushed.{FailWhere-push, filter_push_in, filter_push_out, length-filter-le}
+use Rattle.sim_kernel.proofs.Pushed.{FailWhere-push, filter_push_in, filter_push_out}
 
 -- how many were asked for, at most as many as there are entries
 pub additions_bound : {state : KernelState} {journal : List Entry} {refuse breaks : List ℕ} {a d : ℕ} → IsConsistent state journal refuse breaks a d → a ≤ length journal

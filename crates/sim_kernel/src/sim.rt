@@ -8,7 +8,9 @@ ghost use Rattle.sim_kernel.specs.Consistent.{IsConsistent};
 
 use crate::lists::{insert_rule, is_in, remove_rule};
 use crate::tables::Tables;
-use kernel_model::{Armed, Entry, EntryKind, Kernel, KernelFault, Request, verdict_by};
+use kernel_model::{
+    Armed, DEVICE_TABLE, Entry, EntryKind, Kernel, KernelFault, Request, verdict_by,
+};
 use prefixes::{Addr, Family, Route};
 use rule_match::{Action, Packet, Rule, Verdict};
 use std::alloc::{AllocError, Global};
@@ -21,7 +23,7 @@ const OWN_RULE: Rule = Rule {
     incoming: None,
     outgoing: None,
     uids: None,
-    action: Action::Table(255),
+    action: Action::Table(DEVICE_TABLE),
 };
 
 /// A kernel that keeps its rules and its tables in lists, and fails where it is told to. Its journal and its lists of

@@ -2,10 +2,11 @@ ghost use Rattle.std.specs.Prelude.{◌≡◌, ◌==◌, [], ◌∷◌, ◌++◌
 ghost use Rattle.std.specs.List.{position};
 ghost use Rattle.prefixes.specs.Best.{best};
 ghost use Rattle.fib_table.specs.Table.{has_key, has_route, without_route};
-ghost use Rattle.kernel_model.specs.State.{start, loopback4, loopback6, loopback, put_route, cut_route, routes_of};
+ghost use Rattle.kernel_model.specs.State.{device_table, start, loopback4, loopback6, loopback, put_route, cut_route, routes_of};
 ghost use Rattle.sim_kernel.specs.Tables.{RoomyTable, table_of, place_of, empty};
 
 use crate::numbered::NumberedTable;
+use kernel_model::DEVICE_TABLE;
 use prefixes::{Addr, Out, Prefix, Route};
 use std::alloc::{AllocError, Global};
 use std::marker::Model;
@@ -34,12 +35,9 @@ impl Model for Tables {
     ghost invariant = { λ a. ReadyHasRoom a.ready a.tables.items (vec_capacity a.tables - vec_len a.tables) a.fresh };
 }
 
-/// The table of the device's own addresses.
-const OWN_TABLE: u32 = 255;
-
 /// By the link `lo`.
 const LOOPBACK: Out = Out::Dev {
-    link: 1,
+    link: rule_match::LOOPBACK,
     gateway: None,
 };
 
@@ -69,11 +67,11 @@ fn loopback6() -> Route
     }
 }
 
-// Table 255 of the starting kernel.
+// The device table of the starting kernel.
 fn own_table(alloc: Global) -> Result<NumberedTable, AllocError>
-    ensures { IfOk result (λ t. (t.number ≡ 255) × (t.routes ≡ loopback)) }
+    ensures { IfOk result (λ t. (t.number ≡ device_table) × (t.routes ≡ loopback)) }
 {
-    let mut table = NumberedTable::new(alloc, OWN_TABLE);
+    let mut table = NumberedTable::new(alloc, DEVICE_TABLE);
     table.reserve_one()?;
     table.add(loopback4());
     table.reserve_one()?;

@@ -1,6 +1,7 @@
 use Rattle.std.proofs.Common.{◌∙◌, sym}
 use Rattle.rule_match.specs.Rule.{same_rule}
-use Rattle.sim_kernel.proofs.Places.{removed, position_none}
+use Rattle.list_lemmas.proofs.Positions.{position_none}
+use Rattle.sim_kernel.proofs.Places.{removed}
 use Rattle.sim_kernel.proofs.lists.remove_rule.Goals as goal
 
 pub returns-in-Some-clause-items : goal.returns-in-Some-clause-items
