@@ -3,21 +3,16 @@ use Rattle.std.proofs.Common.{◌≡◌, ◌≢◌, ◌∙◌, ℕ, ◌+◌, ◌
 use Rattle.std.proofs.lemmas.List.{append-nil}
 use Rattle.std.proofs.lemmas.List.Folds.{list_any-append}
 use Rattle.std.proofs.lemmas.Bool.Decides.{eqb_tells}
+use Rattle.std.proofs.KnownBytes.{Consumes-trans}
 use Rattle.std.specs.Io.KnownBytes.{Consumes}
 use Rattle.line_input.specs.Lines.{IsOneLine, line_feed, line_limit}
-use Rattle.line_input.specs.Looks.{Outside, held, line_of, Looks}
+use Rattle.net_io.specs.Streams.{SourceView}
+use Rattle.line_input.specs.Looks.{held, line_of, Looks}
 use Rattle.line_input.specs.Steps.{Takes, Looking}
 use Rattle.line_input.specs.declared.input.Input.{Input}
 use Rattle.line_input.specs.declared.input.Met.TheVariants.{Line, End}
 use Rattle.line_input.specs.declared.input.InputFault.{InputFault}
 use Rattle.line_input.specs.declared.input.InputFault.TheVariants.{Read, TooLong}
-
--- known bytes that lose xs and then ys lose both
-pub consumes_both : (a b c : Option (List ℕ)) (xs ys : List ℕ) → Consumes a b xs → Consumes b c ys → Consumes a c (xs ++ ys)
-consumes_both None b c xs ys p q = tt
-consumes_both (Some s) None c xs ys p q = absurd p
-consumes_both (Some s) (Some t) None xs ys p q = absurd q
-consumes_both (Some s) (Some t) (Some u) xs ys p q = p ∙ ap (λ (l : List ℕ). xs ++ l) q ∙ sym (append_assoc xs ys u)
 
 -- one byte more that is no line feed
 pub one_line_more : (line : List ℕ) (byte : ℕ) → IsOneLine line → byte ≢ line_feed → IsOneLine (line ++ byte ∷ [])
@@ -29,12 +24,12 @@ one_line_more line byte one other =
       | inr (test, differs) ↦ ap (λ b. b || false) test
     ])
 
-module _ (start : List ℕ) (count : ℕ) (mid new : Input) (b m a : Outside) (l : Looking start count mid b m) where
+module _ (start : List ℕ) (count : ℕ) (mid new : Input) (b m a : SourceView) (l : Looking start count mid b m) where
   bytes_so_far : (r : Result (Option ℕ) InputFault) (t : Takes mid new m a r) → start ++ (l.more ++ t.more) ≡ line_of mid ++ (held mid ++ t.more)
   bytes_so_far r t = sym (append_assoc (start) l.more t.more) ∙ (ap (λ (xs : List ℕ). xs ++ t.more) l.bytes ∙ append_assoc (line_of mid) (held mid) t.more)
 
   both_taken : (r : Result (Option ℕ) InputFault) (t : Takes mid new m a r) → Consumes b.left a.left (l.more ++ t.more)
-  both_taken r t = consumes_both b.left m.left a.left l.more t.more l.taken t.taken
+  both_taken r t = Consumes-trans b.left m.left a.left l.more t.more l.taken t.taken
 
   both_counted : (r : Result (Option ℕ) InputFault) (t : Takes mid new m a r) → new.given ≡ count + length (l.more ++ t.more)
   both_counted r t = omega (arith, length-append l.more t.more, l.counted, t.counted)
@@ -161,7 +156,7 @@ module _ (start : List ℕ) (count : ℕ) (mid new : Input) (b m a : Outside) (l
     none_left = t.none_left;
   }
 
-pub looks_long_line : (start : List ℕ) (count : ℕ) (mid : Input) (b m : Outside) → Looking start count mid b m → line_limit < mid.length → Looks start count mid b m (Ok Line)
+pub looks_long_line : (start : List ℕ) (count : ℕ) (mid : Input) (b m : SourceView) → Looking start count mid b m → line_limit < mid.length → Looks start count mid b m (Ok Line)
 looks_long_line start count mid b m l long = record {
   more = l.more;
   taken = l.taken;
@@ -172,13 +167,13 @@ looks_long_line start count mid b m l long = record {
   found = ((line_of mid, l.bytes, inr (inl (refl, omega (arith, l.length_is)))), l.within, l.no_fault);
 }
 
-pub looks_fault : (start : List ℕ) (count : ℕ) (mid new : Input) (b m a : Outside) → Looking start count mid b m → (fault : InputFault)
+pub looks_fault : (start : List ℕ) (count : ℕ) (mid new : Input) (b m a : SourceView) → Looking start count mid b m → (fault : InputFault)
     → Takes mid new m a (Err fault) → mid.length ≤ line_limit → Looks start count new b a (Err fault)
 looks_fault start count mid new b m a l Read t short = looks_read start count mid new b m a l t short
 looks_fault start count mid new b m a l TooLong t short = looks_long_input start count mid new b m a l t short
 
 -- the same, by what the byte was read as
-module _ (start : List ℕ) (count : ℕ) (mid new : Input) (b m a : Outside) (l : Looking start count mid b m) (r : Result (Option ℕ) InputFault) (t : Takes mid new m a r) where
+module _ (start : List ℕ) (count : ℕ) (mid new : Input) (b m a : SourceView) (l : Looking start count mid b m) (r : Result (Option ℕ) InputFault) (t : Takes mid new m a r) where
   pub at_end : r ≡ Ok None → mid.length ≡ 0 → Looks start count new b a (Ok End)
   at_end e none = looks_end start count mid new b m a l (subst (λ x. Takes mid new m a x) e t) none
 

@@ -9,7 +9,8 @@ pub record AreFed (given : List ℕ) (lines : List (List ℕ)) (held : List ℕ)
   pub each : AllByRecursion IsOneLine lines
 
 -- the bytes ended behind the last of these lines, which lacks its line feed
-pub record AreLast (ended : Bool) (given : List ℕ) (lines : List (List ℕ)) (held : List ℕ) : Type 0 where
+pub record AreLast (ended : Bool) (given : List ℕ) (lines : List (List ℕ))
+    (held : List ℕ) : Type 0 where
   pub front : List (List ℕ)
   pub last : List ℕ
   pub lines_are : lines ≡ front ++ last ∷ []

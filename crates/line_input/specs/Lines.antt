@@ -24,7 +24,8 @@ fed line = line ++ line_feed ∷ []
 -- what stands behind the last line feed is a line where the input ended behind at least one byte of it, or where it is
 -- too long for one however it goes on
 abbrev pub last_line : Bool → List ℕ → List (List ℕ)
-last_line ended rest = if (ended && nat_lt 0 (length rest)) || nat_lt line_limit (length rest) then rest ∷ [] else []
+last_line ended rest = if (ended && nat_lt 0 (length rest)) || nat_lt line_limit (length rest) then
+    rest ∷ [] else []
 
 -- The lines that are met in bytes that were given: those that end in a line feed, and the last one.
 pub record AreMet (given : List ℕ) (ended : Bool) (lines : List (List ℕ)) : Type 0 where

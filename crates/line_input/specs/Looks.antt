@@ -17,11 +17,8 @@ held input = drop input.at (take input.filled input.piece)
 abbrev pub line_of : Input → List ℕ
 line_of input = take input.length input.line
 
-abbrev pub Outside : Type 0
-Outside = SourceView
-
 -- where the source has ended, it has no byte left
-abbrev pub NoneLeft : Outside → Type 0
+abbrev pub NoneLeft : SourceView → Type 0
 NoneLeft outside = outside.ended ≡ true → IsAtEnd outside.left
 
 -- the bytes by which a line was met: it with its line feed, one byte more than a line may have, or the last bytes of the input
@@ -29,22 +26,29 @@ abbrev pub IsMetBy : Bool → List ℕ → List ℕ → List ℕ → Type 0
 IsMetBy ended line bytes behind =
     ((bytes ≡ fed line) × (length line ≤ line_limit))
     ⊎ (((bytes ≡ line) × (line_limit < length line))
-    ⊎ ((bytes ≡ line) × (0 < length line) × (length line ≤ line_limit) × (behind ≡ []) × (ended ≡ true)))
+    ⊎ ((bytes ≡ line) × (0 < length line) × (length line ≤ line_limit) × (behind ≡ [])
+    × (ended ≡ true)))
 
 -- what became of the bytes, by the answer
-abbrev pub Found : Result Met InputFault → (line bytes behind : List ℕ) (count : ℕ) (old new : Outside) → Type 0
+abbrev pub Found : Result Met InputFault
+    → (line bytes behind : List ℕ) (count : ℕ) (old new : SourceView) → Type 0
 Found (Ok Line) line bytes behind count old new =
-    ((front : List ℕ) × (bytes ≡ front ++ behind) × IsMetBy new.ended line front behind) × (count ≤ input_limit) × (new.faults ≡ old.faults)
+    ((front : List ℕ) × (bytes ≡ front ++ behind) × IsMetBy new.ended line front behind)
+    × (count ≤ input_limit) × (new.faults ≡ old.faults)
 Found (Ok End) line bytes behind count old new =
-    (bytes ≡ []) × (line ≡ []) × (behind ≡ []) × (count ≤ input_limit) × (new.faults ≡ old.faults) × (new.ended ≡ true)
+    (bytes ≡ []) × (line ≡ []) × (behind ≡ []) × (count ≤ input_limit) × (new.faults ≡ old.faults)
+    × (new.ended ≡ true)
 Found (Err Read) line bytes behind count old new =
-    (bytes ≡ line) × (length line ≤ line_limit) × (behind ≡ []) × (count ≤ input_limit) × (old.faults < new.faults) × (new.ended ≡ false)
+    (bytes ≡ line) × (length line ≤ line_limit) × (behind ≡ []) × (count ≤ input_limit)
+    × (old.faults < new.faults) × (new.ended ≡ false)
 Found (Err TooLong) line bytes behind count old new =
-    (bytes ≡ line ++ behind) × (length line ≤ line_limit) × (length behind ≡ 1) × (count ≡ input_limit + 1) × (new.faults ≡ old.faults) × (new.ended ≡ false)
+    (bytes ≡ line ++ behind) × (length line ≤ line_limit) × (length behind ≡ 1)
+    × (count ≡ input_limit + 1) × (new.faults ≡ old.faults) × (new.ended ≡ false)
 
 -- Behind the bytes that were held, of so many that were given, the source gave some more. Together they are the line,
 -- and what is held now.
-pub record Looks (bytes : List ℕ) (count : ℕ) (new : Input) (before after : Outside) (result : Result Met InputFault) : Type 0 where
+pub record Looks (bytes : List ℕ) (count : ℕ) (new : Input) (before after : SourceView)
+    (result : Result Met InputFault) : Type 0 where
   pub more : List ℕ
   pub taken : Consumes before.left after.left more
   pub counted : new.given ≡ count + length more

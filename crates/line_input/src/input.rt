@@ -40,7 +40,8 @@ fn read_front<S: Source>(source: &mut S, piece: &mut [u8], most: usize) -> Resul
     requires some { 0 < most }
     requires fits { most ≤ length piece.old }
     ensures bound { IfOk result (λ n. n ≤ most) }
-    ensures bytes { IfOk result (λ n. Consumes (S.seen source.old).left (S.seen source.new).left (take n piece.new)) }
+    ensures bytes { IfOk result
+        (λ n. Consumes (S.seen source.old).left (S.seen source.new).left (take n piece.new)) }
     ensures end { IfOk result (λ n. (S.seen source.new).ended ≡ (n == 0)) }
     ensures none_left { IfOk result (λ n. n ≡ 0 → IsAtEnd (S.seen source.new).left) }
     ensures kept { OnOk result ((S.seen source.new).faults ≡ (S.seen source.old).faults) }

@@ -3,6 +3,7 @@ use Rattle.std.proofs.Common.{◌≡◌, ◌∙◌, ℕ, ◌+◌, ◌*◌, ◌<�
 use Rattle.std.proofs.lemmas.Bool.{cases_lt}
 use Rattle.std.proofs.lemmas.List.{length-map, length-reverse, length-take-le}
 use Rattle.std.proofs.lemmas.Option.{none-some, slice_get_within}
+use Rattle.std.specs.declared.alloc.AllocError.{AllocError}
 use Rattle.kernel_model.specs.Journal.{entry}
 use Rattle.kernel_model.specs.Segment.{done, undone, IsWhole, IsHalted}
 use Rattle.kernel_model.specs.View.{KernelView, grown}
@@ -18,8 +19,8 @@ use Rattle.net_control.specs.Started.{IsStarted, start_adds}
 use Rattle.net_control.specs.View.{ControllerView}
 use Rattle.net_control.specs.declared.controller.StartFault.{StartFault}
 use Rattle.net_control.specs.declared.controller.StartFault.TheVariants as fault
-use Rattle.net_control.specs.declared.controller.Answer.{Answer}
-use Rattle.net_control.specs.declared.controller.Answer.TheVariants as answer
+use Rattle.turn_text.specs.declared.answer.Answer.{Answer}
+use Rattle.turn_text.specs.declared.answer.Answer.TheVariants as answer
 use Rattle.commands.specs.declared.command.Command.{Command}
 
 done_length : (adds deletes : List Request) → length (done adds deletes) ≡ length adds + length deletes
@@ -79,17 +80,17 @@ same_few old before after command same =
       within = λ few. omega (arith, as_long, few);
     }
 
-pub keeps_limit : (a : Answer) (command : Command) (old new : ControllerView) (before after : KernelView) → IsAnswered a command old new before after
+pub keeps_limit : (a : Result Answer AllocError) (command : Command) (old new : ControllerView) (before after : KernelView) → IsAnswered a command old new before after
     → KeepsLimit old.state command before after
-keeps_limit answer.Done command old new before after is =
+keeps_limit (Ok answer.Done) command old new before after is =
     grew_few old before after command (done (adds_of old.state command) (deletes_of old.state command)) is.0 is.1 (omega (arith, done_length (adds_of old.state command) (deletes_of old.state command)))
-keeps_limit (answer.Refused c) command old new before after is = same_few old before after command is.2
-keeps_limit (answer.KernelRefused q) command old new before after is =
+keeps_limit (Ok (answer.Refused c)) command old new before after is = same_few old before after command is.2
+keeps_limit (Ok (answer.KernelRefused q)) command old new before after is =
     grew_few old before after command is.1.1 is.0 is.1.3 (omega (arith, whole_few (adds_of old.state command) (deletes_of old.state command) is.1.1 (inr (is.1.0, is.1.2))))
-keeps_limit (answer.Halted q) command old new before after (inl is) = same_few old before after command is.1
-keeps_limit (answer.Halted q) command old new before after (inr is) =
+keeps_limit (Ok (answer.Halted q)) command old new before after (inl is) = same_few old before after command is.1
+keeps_limit (Ok (answer.Halted q)) command old new before after (inr is) =
     grew_few old before after command is.1.0 is.0 is.1.2 (halted_few (adds_of old.state command) (deletes_of old.state command) is.1.0 is.1.1)
-keeps_limit answer.NoMemory command old new before after is = same_few old before after command is.1
+keeps_limit (Err e) command old new before after is = same_few old before after command is.1
 
 start_grew : (before after : KernelView) (es : List Entry) → after ≡ grown before es → before.journal ≡ [] → length after.journal ≡ length es
 start_grew before after es grew none =

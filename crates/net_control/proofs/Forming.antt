@@ -1,6 +1,7 @@
 -- A journal of well formed requests stays one.
 use Rattle.std.proofs.Common.{◌≡◌, List, [], Result, Ok, Err, inl, inr, refl, sym, subst}
 use Rattle.std.specs.List.{AllByRecursion}
+use Rattle.std.specs.declared.alloc.AllocError.{AllocError}
 use Rattle.kernel_model.specs.Form.{IsWellFormedRule, IsWellFormed, AreWellFormed}
 use Rattle.kernel_model.specs.Segment.{done}
 use Rattle.kernel_model.specs.View.{KernelView, grown}
@@ -12,8 +13,8 @@ use Rattle.net_control.specs.Started.{IsStarted, start_adds}
 use Rattle.net_control.specs.View.{ControllerView}
 use Rattle.net_control.specs.declared.controller.StartFault.{StartFault}
 use Rattle.net_control.specs.declared.controller.StartFault.TheVariants as fault
-use Rattle.net_control.specs.declared.controller.Answer.{Answer}
-use Rattle.net_control.specs.declared.controller.Answer.TheVariants as answer
+use Rattle.turn_text.specs.declared.answer.Answer.{Answer}
+use Rattle.turn_text.specs.declared.answer.Answer.TheVariants as answer
 use Rattle.policy_state.specs.Table.{explicit_local_rule, local_rule, last_rule}
 use Rattle.commands.specs.declared.command.Command.{Command}
 
@@ -29,23 +30,23 @@ abbrev AsksWellFormed : ControllerView → KernelView → Command → Type 0
 AsksWellFormed old before command =
     IsTaken old before command → AllByRecursion IsWellFormed (adds_of old.state command) × AllByRecursion IsWellFormed (deletes_of old.state command)
 
-pub keeps_form : (a : Answer) (command : Command) (old new : ControllerView) (before after : KernelView) → AsksWellFormed old before command
+pub keeps_form : (a : Result Answer AllocError) (command : Command) (old new : ControllerView) (before after : KernelView) → AsksWellFormed old before command
     → IsAnswered a command old new before after → AreWellFormed before.journal → AreWellFormed after.journal
-keeps_form answer.Done command old new before after asks is =
+keeps_form (Ok answer.Done) command old new before after asks is =
     let each = asks is.0 in
     grew-formed before after (done (adds_of old.state command) (deletes_of old.state command)) is.1
     (of_done IsWellFormed (adds_of old.state command) (deletes_of old.state command) each.0 each.1)
-keeps_form (answer.Refused c) command old new before after asks is = same-formed before after is.2
-keeps_form (answer.KernelRefused q) command old new before after asks is =
+keeps_form (Ok (answer.Refused c)) command old new before after asks is = same-formed before after is.2
+keeps_form (Ok (answer.KernelRefused q)) command old new before after asks is =
     let each = asks is.0 in
     grew-formed before after is.1.1 is.1.3
     (of_whole IsWellFormed (adds_of old.state command) (deletes_of old.state command) each.0 each.1 is.1.1 (inr (is.1.0, is.1.2)))
-keeps_form (answer.Halted q) command old new before after asks (inl is) = same-formed before after is.1
-keeps_form (answer.Halted q) command old new before after asks (inr is) =
+keeps_form (Ok (answer.Halted q)) command old new before after asks (inl is) = same-formed before after is.1
+keeps_form (Ok (answer.Halted q)) command old new before after asks (inr is) =
     let each = asks is.0 in
     grew-formed before after is.1.0 is.1.2
     (of_halted IsWellFormed (adds_of old.state command) (deletes_of old.state command) each.0 each.1 is.1.0 is.1.1)
-keeps_form answer.NoMemory command old new before after asks is = same-formed before after is.1
+keeps_form (Err e) command old new before after asks is = same-formed before after is.1
 
 -- the start asks for three rules, each in both families
 start_adds-formed : AllByRecursion IsWellFormed start_adds

@@ -1,10 +1,13 @@
 -- One switch where nothing is undone, and the very kernel where all is.
-use Rattle.std.proofs.Common.{◌≡◌, ◌∙◌, ◌⊎◌, ℕ, zero, suc, ◌+◌, ◌≤◌, List, [], ◌∷◌, ◌++◌, length, map, reverse, filter, take, Option, None, Some, slice_get, inl, inr, refl, sym, ap, subst, arith}
+use Rattle.std.proofs.Common.{◌≡◌, ◌∙◌, ◌⊎◌, ℕ, zero, suc, ◌+◌, ◌<◌, ◌≤◌, List, [], ◌∷◌, ◌++◌, length, map, reverse, filter, take, Option, None, Some, Result, Ok, Err, slice_get, inl, inr, refl, sym, ap, subst, arith}
 use Rattle.std.proofs.lemmas.List.{append-nil}
+use Rattle.std.proofs.lemmas.Option.{none-some}
+use Rattle.std.specs.declared.alloc.AllocError.{AllocError}
 use Rattle.kernel_model.proofs.Counts.{refusals-grown}
 use Rattle.kernel_model.proofs.Replays.{replay-append}
-use Rattle.kernel_model.specs.Journal.{entry, is_refused, replay_from}
+use Rattle.kernel_model.specs.Journal.{entry, is_refused, replay, replay_from}
 use Rattle.kernel_model.specs.Segment.{done, undone, IsHalted, IsUndoneAt, IsWhole}
+use Rattle.kernel_model.specs.State.{KernelState, start as kernel_start}
 use Rattle.kernel_model.specs.Switch.{walk_along}
 use Rattle.kernel_model.specs.View.{KernelView, grown, refusals_of, state_of}
 use Rattle.kernel_model.specs.Walk.{walk}
@@ -13,16 +16,19 @@ use Rattle.kernel_model.specs.declared.request.EntryKind.{EntryKind}
 use Rattle.kernel_model.specs.declared.request.EntryKind.TheVariants.{Added, Deleted, Refused, Broken}
 use Rattle.kernel_model.specs.declared.request.Request.{Request}
 use Rattle.net_control.proofs.Causing.{refused_both, undone_refused}
-use Rattle.net_control.proofs.Policed.{same_entries}
+use Rattle.net_control.proofs.Policed.{at_same, same_entries}
 use Rattle.net_control.specs.Applied.{IsAnswered, IsTaken, adds_of, deletes_of}
 use Rattle.net_control.specs.Causes.{RefusedNone}
-use Rattle.net_control.specs.Moments.{GoesOnce, IsAsBefore}
+use Rattle.net_control.specs.Moments.{GoesOnce, IsAsBefore, IsStartAsBefore, KeepsPolicy}
+use Rattle.net_control.specs.Started.{IsStarted, start_adds}
 use Rattle.net_control.specs.View.{ControllerView}
-use Rattle.net_control.specs.declared.controller.Answer.{Answer}
-use Rattle.net_control.specs.declared.controller.Answer.TheVariants as answer
+use Rattle.net_control.specs.declared.controller.StartFault.{StartFault}
+use Rattle.net_control.specs.declared.controller.StartFault.TheVariants as fault
+use Rattle.turn_text.specs.declared.answer.Answer.{Answer}
+use Rattle.turn_text.specs.declared.answer.Answer.TheVariants as answer
 use Rattle.policy_meaning.specs.Policy.{policy}
 use Rattle.policy_state.specs.Step.{changed}
-use Rattle.policy_state.specs.View.{StateView}
+use Rattle.policy_state.specs.View.{StateView, start}
 use Rattle.commands.specs.declared.command.Command.{Command}
 use Rattle.rule_law.specs.Plans.{GoesOver}
 use Rattle.rule_match.specs.declared.packet.Packet.{Packet}
@@ -35,16 +41,16 @@ once_by_policy {last} {at} {old} {new} {said_old} {said_new} a b goes =
     subst (λ (v : Verdict). GoesOver last at v said_new) a (subst (λ (v : Verdict). GoesOver last at old v) b goes)
 
 -- what the kernel was asked is undone
-pub as_before : (a : Answer) (command : Command) (old new : ControllerView) (before after : KernelView)
+pub as_before : (a : Result Answer AllocError) (command : Command) (old new : ControllerView) (before after : KernelView)
     → (IsTaken old before command → (i : ℕ) (refused : Request) → slice_get (adds_of old.state command) i ≡ Some refused
     → replay_from (state_of before) (undone (adds_of old.state command) i refused) ≡ state_of before)
     → IsAnswered a command old new before after → IsAsBefore a before after
-as_before answer.Done command old new before after undoes is request e = absurd cc
-as_before (answer.Refused c) command old new before after undoes is request e = absurd cc
-as_before (answer.KernelRefused q) command old new before after undoes is request e =
+as_before (Ok answer.Done) command old new before after undoes is request e = absurd cc
+as_before (Ok (answer.Refused c)) command old new before after undoes is request e = absurd cc
+as_before (Ok (answer.KernelRefused q)) command old new before after undoes is request e =
     ap state_of is.1.3 ∙ replay-append before.journal is.1.1 ∙ ap (replay_from (state_of before)) is.1.2.all ∙ undoes is.0 is.1.0 is.1.2.refused is.1.2.next
-as_before (answer.Halted q) command old new before after undoes is request e = absurd cc
-as_before answer.NoMemory command old new before after undoes is request e = absurd cc
+as_before (Ok (answer.Halted q)) command old new before after undoes is request e = absurd cc
+as_before (Err f) command old new before after undoes is request e = absurd cc
 
 abbrev kind_at : Option Entry → EntryKind
 kind_at (Some e) = e.kind
@@ -99,18 +105,18 @@ of_entries before after old new es is goes none entries grew packet =
     (same_entries before after es entries is grew) (goes none packet)
 
 -- the requests of a command
-pub once : (a : Answer) (command : Command) (old new : ControllerView) (before after : KernelView)
+pub once : (a : Result Answer AllocError) (command : Command) (old new : ControllerView) (before after : KernelView)
     → ((packet : Packet) → walk (state_of before) packet ≡ policy old.state packet)
     → (IsTaken old before command → (entries : List Entry) → IsForward (adds_of old.state command) (deletes_of old.state command) entries → (packet : Packet)
     → GoesOver (length entries) (walk_along (state_of before) packet entries) (policy old.state packet) (policy (changed old.state command) packet))
     → IsAnswered a command old new before after → GoesOnce before after old.state (changed old.state command)
-once answer.Done command old new before after means goes is =
+once (Ok answer.Done) command old new before after means goes is =
     of_entries before after old.state (changed old.state command) (done (adds_of old.state command) (deletes_of old.state command)) is.1 (λ none. goes is.0 _ (inl refl))
-once (answer.Refused c) command old new before after means goes is = still before after old.state (changed old.state command) means is.2
-once (answer.KernelRefused q) command old new before after means goes is =
+once (Ok (answer.Refused c)) command old new before after means goes is = still before after old.state (changed old.state command) means is.2
+once (Ok (answer.KernelRefused q)) command old new before after means goes is =
     λ none. refused_both before after (undone_refused (adds_of old.state command) (deletes_of old.state command) before after is.1.0 is.1.1 is.1.2 is.1.3) none
-once (answer.Halted q) command old new before after means goes (inl is) = still before after old.state (changed old.state command) means is.1
-once (answer.Halted q) command old new before after means goes (inr is) =
+once (Ok (answer.Halted q)) command old new before after means goes (inl is) = still before after old.state (changed old.state command) means is.1
+once (Ok (answer.Halted q)) command old new before after means goes (inr is) =
     of_entries before after old.state (changed old.state command) is.1.0 is.1.2 (λ none. forward none is.1.1.is_whole)
   where
     forward : RefusedNone before after → IsWhole (adds_of old.state command) (deletes_of old.state command) is.1.1.whole → (packet : Packet)
@@ -122,4 +128,33 @@ once (answer.Halted q) command old new before after means goes (inr is) =
         is.1.1.all ∙ ap (λ (w : List Entry). take is.1.1.at w ++ entry Broken is.1.1.request ∷ []) whole in
         goes is.0 is.1.0 (inr (is.1.1.at, is.1.1.request, stops, all))
     forward none (inr (k, undone_at)) = unrefused (adds_of old.state command) (deletes_of old.state command) before after is.1.0 is.1.1 k undone_at is.1.2 none
-once answer.NoMemory command old new before after means goes is = still before after old.state (changed old.state command) means is.1
+once (Err e) command old new before after means goes is = still before after old.state (changed old.state command) means is.1
+
+-- the start goes from the first state's policy to the same
+pub start_once : (before after : KernelView) → KeepsPolicy before after start start → GoesOnce before after start start
+start_once before after keeps none entries grew packet =
+    subst (λ (l : List Entry). GoesOver (length l) (walk_along (state_of before) packet l) (policy start packet) (policy start packet))
+    (same_entries before after keeps.entries entries keeps.grew grew) record {
+      switch = 0;
+      before = λ i last front. absurd (let f : i < 0 = front in omega arith);
+      behind = λ i last over. at_same (keeps.moments packet) i last;
+    }
+
+-- the start's additions, undone at each of the six
+start_undone : (k : ℕ) (r : Request) → slice_get start_adds k ≡ Some r → replay_from kernel_start (undone start_adds k r) ≡ kernel_start
+start_undone zero r next = refl
+start_undone (suc zero) r next = refl
+start_undone (suc (suc zero)) r next = refl
+start_undone (suc (suc (suc zero))) r next = refl
+start_undone (suc (suc (suc (suc zero)))) r next = refl
+start_undone (suc (suc (suc (suc (suc zero))))) r next = refl
+start_undone (suc (suc (suc (suc (suc (suc k)))))) r next = absurd (none-some r next)
+
+pub start_as_before : (result : Result ControllerView StartFault) (before after : KernelView) → before.journal ≡ [] → IsStarted result before after
+    → IsStartAsBefore result before after
+start_as_before (Ok controller) before after none is q e = absurd cc
+start_as_before (Err (fault.Refused r)) before after none is q e =
+    ap state_of is.3 ∙ replay-append before.journal is.1 ∙ ap (replay_from (state_of before)) is.2.all
+    ∙ subst (λ (k : KernelState). replay_from k (undone start_adds is.0 is.2.refused) ≡ k) (sym (ap replay none)) (start_undone is.0 is.2.refused is.2.next)
+start_as_before (Err (fault.Halted r)) before after none is q e = absurd cc
+start_as_before (Err (fault.Memory m)) before after none is q e = absurd cc

@@ -2,6 +2,7 @@
 use Rattle.std.proofs.Common.{◌≡◌, ◌≢◌, ◌∙◌, ◌⊎◌, ℕ, ◌≤◌, List, [], length, Option, None, Some, Result, Ok, Err, inl, inr, refl, sym, ap, subst, arith}
 use Rattle.std.proofs.lemmas.List.{append-nil, append_cancel_left}
 use Rattle.std.proofs.lemmas.Bool.{cases_lt}
+use Rattle.std.specs.declared.alloc.AllocError.{AllocError}
 use Rattle.kernel_model.specs.Segment.{IsSegment}
 use Rattle.kernel_model.specs.Stands.{Stands}
 use Rattle.kernel_model.specs.State.{KernelState}
@@ -12,8 +13,8 @@ use Rattle.kernel_model.specs.declared.request.Entry.{Entry}
 use Rattle.net_control.specs.Applied.{IsAnswered, IsTaken, adds_of, deletes_of, or_else}
 use Rattle.net_control.specs.Started.{IsStarted, start_adds}
 use Rattle.net_control.specs.View.{ControllerView, IsKept}
-use Rattle.net_control.specs.declared.controller.Answer.{Answer}
-use Rattle.net_control.specs.declared.controller.Answer.TheVariants as answer
+use Rattle.turn_text.specs.declared.answer.Answer.{Answer}
+use Rattle.turn_text.specs.declared.answer.Answer.TheVariants as answer
 use Rattle.net_control.specs.declared.controller.StartFault.{StartFault}
 use Rattle.net_control.specs.declared.controller.StartFault.TheVariants as fault
 use Rattle.net_names.specs.declared.code.Code.{Code}
@@ -66,19 +67,19 @@ pub accepted : (old : ControllerView) (before : KernelView) (command : Command) 
 accepted old before command taken = first_none (refusal old.state command) _ taken.accepted
 
 -- the requests of a command
-pub answered : (a : Answer) (command : Command) (old new : ControllerView) (before after : KernelView)
+pub answered : (a : Result Answer AllocError) (command : Command) (old new : ControllerView) (before after : KernelView)
     → ((packet : Packet) → walk (state_of before) packet ≡ policy old.state packet)
     → (IsTaken old before command → (entries : List Entry) → IsSegment (adds_of old.state command) (deletes_of old.state command) entries → (packet : Packet)
     → GoesOverAndBack (length entries) (walk_along (state_of before) packet entries) (policy old.state packet) (policy (changed old.state command) packet))
     → IsAnswered a command old new before after → KeepsPolicy before after old.state (changed old.state command)
-answered answer.Done command old new before after means goes is = record { entries = _; grew = is.1; moments = goes is.0 _ (inl refl) }
-answered (answer.Refused c) command old new before after means goes is = stays before after old.state (changed old.state command) means is.2
-answered (answer.KernelRefused q) command old new before after means goes is =
+answered (Ok answer.Done) command old new before after means goes is = record { entries = _; grew = is.1; moments = goes is.0 _ (inl refl) }
+answered (Ok (answer.Refused c)) command old new before after means goes is = stays before after old.state (changed old.state command) means is.2
+answered (Ok (answer.KernelRefused q)) command old new before after means goes is =
     record { entries = is.1.1; grew = is.1.3; moments = goes is.0 is.1.1 (inr (inl (is.1.0, is.1.2))) }
-answered (answer.Halted q) command old new before after means goes (inl is) = stays before after old.state (changed old.state command) means is.1
-answered (answer.Halted q) command old new before after means goes (inr is) =
+answered (Ok (answer.Halted q)) command old new before after means goes (inl is) = stays before after old.state (changed old.state command) means is.1
+answered (Ok (answer.Halted q)) command old new before after means goes (inr is) =
     record { entries = is.1.0; grew = is.1.2; moments = goes is.0 is.1.0 (inr (inr is.1.1)) }
-answered answer.NoMemory command old new before after means goes is = stays before after old.state (changed old.state command) means is.1
+answered (Err e) command old new before after means goes is = stays before after old.state (changed old.state command) means is.1
 
 -- the requests of the start
 pub begun : (r : Result ControllerView StartFault) (before after : KernelView)
@@ -100,6 +101,14 @@ at_each {last} {at} {old} {new} goes i within = elim (cases_lt i goes.over) as (
     | inr behind ↦ inl (goes.behind i within behind)
   ]
 ]
+
+-- between two names of one value
+pub at_same : {last : ℕ} {at : ℕ → Verdict} {v : Verdict} → GoesOverAndBack last at v v → (i : ℕ) → i ≤ last → at i ≡ v
+at_same {last} {at} {v} goes i within = by (at_each goes i within)
+  where
+    by : (at i ≡ v) ⊎ (at i ≡ v) → at i ≡ v
+    by (inl is) = is
+    by (inr is) = is
 
 -- the journal grew by these entries alone
 pub same_entries : (before after : KernelView) (xs ys : List Entry) → after ≡ grown before xs → after ≡ grown before ys → xs ≡ ys

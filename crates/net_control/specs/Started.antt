@@ -17,7 +17,8 @@ start_adds = twins start_rules
 
 -- what an answer says of the kernel before and after; want of memory leaves it as it was
 abbrev pub IsStarted : Result ControllerView StartFault → (before after : KernelView) → Type 0
-IsStarted (Ok controller) before after = (after ≡ grown before (done start_adds [])) × (controller ≡ running start)
+IsStarted (Ok controller) before after = (after ≡ grown before (done start_adds []))
+    × (controller ≡ running start)
 IsStarted (Err (fault.Refused request)) before after =
     (k : ℕ) × (entries : List Entry) × IsUndoneAt start_adds k entries
     × (after ≡ grown before entries) × (request ≡ length before.journal + k + 1)

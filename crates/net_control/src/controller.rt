@@ -14,6 +14,7 @@ use rule_compile::{plan, plan_ends, plan_law, requests_can_be_asked, start_law, 
 use std::alloc::{AllocError, Global};
 use std::marker::Model;
 use thiserror::Error;
+use turn_text::Answer;
 
 /// The most entries that a journal may have.
 pub const JOURNAL_LIMIT: u64 = 1_000_000;
@@ -32,18 +33,6 @@ pub enum StartFault {
     Halted { request: u64 },
     #[error(transparent)]
     Memory(AllocError),
-}
-
-/// What became of a command.
-#[derive(Clone, Copy, Debug, PartialEq, Eq)]
-pub enum Answer {
-    Done,
-    Refused { code: Code },
-    /// The kernel refused this request, and those before it were undone.
-    KernelRefused { request: u64 },
-    /// This deletion broke, now or at an earlier command. Nothing is asked any more.
-    Halted { request: u64 },
-    NoMemory,
 }
 
 /// The state of the policy, and whether the kernel can still be brought to it.
@@ -66,14 +55,19 @@ impl Model for Controller {
 // room for so many.
 fn room_for<K: Kernel>(kernel: &K, plan: &Plan) -> Option<u64>
     ensures { MatchOption result
-        (journal_limit < length (K.seen kernel.now).journal + (2 * length plan.now.adds + length plan.now.deletes))
-        (λ most. (most ≡ 2 * length plan.now.adds + length plan.now.deletes) × (length (K.seen kernel.now).journal + most ≤ journal_limit)) }
+        (journal_limit < length (K.seen kernel.now).journal +
+        (2 * length plan.now.adds + length plan.now.deletes))
+        (λ most. (most ≡ 2 * length plan.now.adds + length plan.now.deletes)
+        × (length (K.seen kernel.now).journal + most ≤ journal_limit)) }
 {
     let adds = plan.add_count() as u64;
     let deletes = plan.delete_count() as u64;
-    let most = adds.checked_mul(2)?.checked_add(deletes)?;
-    let entries = kernel.entry_count().checked_add(most)?;
-    if entries > JOURNAL_LIMIT {
+    if adds > JOURNAL_LIMIT || deletes > JOURNAL_LIMIT {
+        return None;
+    }
+    let most = 2 * adds + deletes;
+    let entries = kernel.entry_count();
+    if entries > JOURNAL_LIMIT || entries + most > JOURNAL_LIMIT {
         return None;
     }
     Some(most)
@@ -84,7 +78,9 @@ fn room_for<K: Kernel>(kernel: &K, plan: &Plan) -> Option<u64>
 fn make_room<K: Kernel>(kernel: &mut K, plan: &Plan, most: u64) -> Result<(), AllocError>
     ensures seen { K.seen kernel.new ≡ K.seen kernel.old }
     ensures spare { OnOk result (most ≤ (K.room kernel.new).spare) }
-    ensures ready { OnOk result ((n : ℕ) (route : Route) → slice_get plan.now.adds 0 ≡ Some (req.Route n route) → (K.room kernel.new).ready ≡ Some n) }
+    ensures ready { OnOk result ((n : ℕ) (route : Route)
+        → slice_get plan.now.adds 0 ≡ Some (req.Route n route)
+        → (K.room kernel.new).ready ≡ Some n) }
 {
     kernel.reserve(most)?;
     match plan.add_at(0) {
@@ -100,7 +96,7 @@ impl Controller {
     ghost use Rattle.net_control.specs.View.{IsKept};
     ghost use Rattle.net_control.specs.Bounds.{KeepsLimit};
     ghost use Rattle.net_control.specs.Causes.{HasCause, HasStartCause};
-    ghost use Rattle.net_control.specs.Moments.{GoesOnce, IsAsBefore, KeepsLockdown, KeepsPolicy, SendsByPolicy};
+    ghost use Rattle.net_control.specs.Moments.{GoesOnce, IsAsBefore, IsStartAsBefore, KeepsLockdown, KeepsPolicy, SendsByPolicy};
     ghost use Rattle.policy_state.specs.Step.{changed};
 
     // Asks for the rules of the first state.
@@ -146,6 +142,10 @@ impl Controller {
 
         // at every moment between two requests
         ensures moments { KeepsPolicy (K.seen kernel.old) (K.seen kernel.new) start start }
+        ensures once { GoesOnce (K.seen kernel.old) (K.seen kernel.new) start start }
+
+        // after a refusal its rules, their order and its tables are the very ones from before
+        ensures as_before { IsStartAsBefore result (K.seen kernel.old) (K.seen kernel.new) }
 
         // each request is well formed
         ensures formed { AreWellFormed (K.seen kernel.new).journal }
@@ -172,82 +172,93 @@ impl Controller {
     }
 
     // Takes a command with a controller that has not halted.
-    fn take<K: Kernel>(&mut self, kernel: &mut K, command: &Command) -> Answer
+    fn take<K: Kernel>(&mut self, kernel: &mut K, command: &Command) -> Result<Answer, AllocError>
         requires kept { IsKept self.old (K.seen kernel.old) }
         requires runs { self.old.halted ≡ None }
-        ensures answer { IsAnswered result command.now self.old self.new (K.seen kernel.old) (K.seen kernel.new) }
+        ensures answer { IsAnswered result command.now self.old self.new (K.seen kernel.old)
+            (K.seen kernel.new) }
         ensures kept { IsKept self.new (K.seen kernel.new) }
     {
         let new = match self.state.step(command) {
             Ok(new) => new,
-            Err(StepFault::Refused { code }) => return Answer::Refused { code },
-            Err(StepFault::Memory(_)) => return Answer::NoMemory,
+            Err(StepFault::Refused { code }) => return Ok(Answer::Refused { code }),
+            Err(StepFault::Memory(fault)) => return Err(fault),
         };
-        let plan = match plan(self.alloc, &self.state, &new, command) {
-            Ok(plan) => plan,
-            Err(_) => return Answer::NoMemory,
-        };
+        let plan = plan(self.alloc, &self.state, &new, command)?;
         let Some(most) = room_for(kernel, &plan) else {
-            return Answer::Refused {
+            return Ok(Answer::Refused {
                 code: Code::NoSpace,
-            };
+            });
         };
-        if let Err(_) = make_room(kernel, &plan, most) {
-            return Answer::NoMemory;
-        }
+        make_room(kernel, &plan, most)?;
         command.fits_types();
         requests_can_be_asked();
         plan_ends();
         match carry(&plan, kernel) {
             Carried::Done => {
                 self.state = new;
-                Answer::Done
+                Ok(Answer::Done)
             }
-            Carried::Undone { request } => Answer::KernelRefused { request },
+            Carried::Undone { request } => Ok(Answer::KernelRefused { request }),
             Carried::Halted { request } => {
                 self.halted = Some(request);
-                Answer::Halted { request }
+                Ok(Answer::Halted { request })
             }
         }
     }
 
     // Answers a command, asking nothing where the controller has halted.
-    fn answer<K: Kernel>(&mut self, kernel: &mut K, command: &Command) -> Answer
+    fn answer<K: Kernel>(&mut self, kernel: &mut K, command: &Command) -> Result<Answer, AllocError>
         requires { IsKept self.old (K.seen kernel.old) }
-        ensures answer { IsAnswered result command.now self.old self.new (K.seen kernel.old) (K.seen kernel.new) }
+        ensures answer { IsAnswered result command.now self.old self.new (K.seen kernel.old)
+            (K.seen kernel.new) }
         ensures kept { IsKept self.new (K.seen kernel.new) }
     {
         match self.halted {
-            Some(request) => Answer::Halted { request },
+            Some(request) => Ok(Answer::Halted { request }),
             None => self.take(kernel, command),
         }
     }
 
     /// Brings the kernel to the state that the command gives. The new state, the plan and the kernel's room are made
-    /// first, so that nothing can want memory from the first request on. A controller that has halted asks nothing.
-    pub fn apply<K: Kernel>(&mut self, kernel: &mut K, command: &Command) -> Answer
+    /// first, so that nothing can run out of memory from the first request on. A controller that has halted asks nothing.
+    pub fn apply<K: Kernel>(
+        &mut self,
+        kernel: &mut K,
+        command: &Command,
+    ) -> Result<Answer, AllocError>
         requires { IsKept self.old (K.seen kernel.old) }
-        ensures answer { IsAnswered result command.now self.old self.new (K.seen kernel.old) (K.seen kernel.new) }
+        ensures answer { IsAnswered result command.now self.old self.new (K.seen kernel.old)
+            (K.seen kernel.new) }
         ensures kept { IsKept self.new (K.seen kernel.new) }
 
         // behind it, unless the controller has halted, every packet goes where the policy says, and lockdown holds
         ensures sends { SendsByPolicy self.new (K.seen kernel.new) }
 
         // each answer by its cause
-        ensures caused { HasCause result command.now self.old self.new (K.seen kernel.old) (K.seen kernel.new) }
+        ensures caused { HasCause result command.now self.old self.new (K.seen kernel.old)
+            (K.seen kernel.new) }
 
         // how much is asked
-        ensures bounded { KeepsLimit self.old.state command.now (K.seen kernel.old) (K.seen kernel.new) }
+        ensures bounded { KeepsLimit self.old.state command.now (K.seen kernel.old)
+            (K.seen kernel.new) }
 
         // a journal of well formed requests stays one
-        ensures formed { AreWellFormed (K.seen kernel.old).journal → AreWellFormed (K.seen kernel.new).journal }
+        ensures formed { AreWellFormed (K.seen kernel.old).journal
+            → AreWellFormed (K.seen kernel.new).journal }
 
         // at every moment between two requests, undoing and halts included
-        ensures moments { self.old.halted ≡ None → KeepsPolicy (K.seen kernel.old) (K.seen kernel.new) self.old.state (changed self.old.state command.now) }
-        ensures locked { self.old.halted ≡ None → KeepsLockdown (K.seen kernel.old) (K.seen kernel.new) self.old.state (changed self.old.state command.now) }
+        ensures moments { self.old.halted ≡ None
+            → KeepsPolicy (K.seen kernel.old) (K.seen kernel.new) self.old.state
+            (changed self.old.state command.now) }
+        ensures locked { self.old.halted ≡ None
+            → KeepsLockdown (K.seen kernel.old) (K.seen kernel.new) self.old.state
+            (changed self.old.state command.now) }
 
         // one switch, where nothing was undone
-        ensures once { self.old.halted ≡ None → GoesOnce (K.seen kernel.old) (K.seen kernel.new) self.old.state (changed self.old.state command.now) }
+        ensures once { self.old.halted ≡ None
+            → GoesOnce (K.seen kernel.old) (K.seen kernel.new) self.old.state
+            (changed self.old.state command.now) }
 
         // after a refusal by the kernel its rules, their order and its tables are the very ones from before
         ensures as_before { IsAsBefore result (K.seen kernel.old) (K.seen kernel.new) }

@@ -3,4 +3,5 @@
 
 mod controller;
 
-pub use controller::{Answer, Controller, StartFault};
+pub use controller::{Controller, StartFault};
+pub use turn_text::Answer;

@@ -46,7 +46,14 @@ impl Model for MemSource {
 
     ghost Value = { SourceParts };
 
-    ghost view = { λ s. record { rest = drop s.at s.bytes.items; fail = s.fail.items; piece = s.piece; calls = s.calls; faults = s.faults; ended = s.ended } };
+    ghost view = { λ s. record {
+      rest = drop s.at s.bytes.items;
+      fail = s.fail.items;
+      piece = s.piece;
+      calls = s.calls;
+      faults = s.faults;
+      ended = s.ended;
+    } };
 
     ghost invariant = { λ s. (s.at ≤ vec_len s.bytes) × (1 ≤ s.piece) };
 }
@@ -55,7 +62,15 @@ impl MemSource {
     /// A source of these bytes, at most `piece` a call, whose k-th read fails where k is in `fail`.
     pub fn new(bytes: Vec<u8>, fail: Vec<u64>, piece: usize) -> MemSource
         requires { 1 ≤ piece }
-        ensures { result ≡ record { rest = bytes.items; fail = fail.items; piece = piece; calls = 0; faults = 0; ended = false } }
+        ensures { result
+            ≡ record {
+              rest = bytes.items;
+              fail = fail.items;
+              piece = piece;
+              calls = 0;
+              faults = 0;
+              ended = false;
+            } }
     {
         MemSource {
             bytes,
@@ -80,7 +95,8 @@ impl Source for MemSource {
         ensures failed { OnErr result (self.old.faults < self.new.faults) }
         ensures end { self.new.ended ≡ ended_after self.old.ended room.new result }
         ensures listed { IsErr result ↔ (is_listed self.old.calls self.old.fail ≡ true) }
-        ensures most { IfOk result (λ n. n ≡ min self.old.piece (min (length room.new) (length self.old.rest))) }
+        ensures most { IfOk result
+            (λ n. n ≡ min self.old.piece (min (length room.new) (length self.old.rest))) }
         ensures stays { (self.new.fail ≡ self.old.fail) × (self.new.piece ≡ self.old.piece) }
         ensures counted { self.new.calls ≡ calls_after self.old.calls }
         ensures at_most_one { self.new.faults ≤ self.old.faults + 1 }
@@ -123,7 +139,14 @@ impl Model for MemSink {
 
     ghost Value = { SinkParts };
 
-    ghost view = { λ s. record { bytes = s.bytes.items; fail = s.fail.items; piece = s.piece; calls = s.calls; faults = s.faults } };
+    ghost view = { λ s. record {
+      bytes = s.bytes.items;
+      fail = s.fail.items;
+      piece = s.piece;
+      calls = s.calls;
+      faults =
+          s.faults;
+    } };
 
     ghost invariant = { λ s. 1 ≤ s.piece };
 }
@@ -132,7 +155,8 @@ impl MemSink {
     /// A sink that takes at most `piece` bytes a call, whose k-th write fails where k is in `fail`. It holds no byte.
     pub fn new(alloc: Global, fail: Vec<u64>, piece: usize) -> MemSink
         requires { 1 ≤ piece }
-        ensures { result ≡ record { bytes = []; fail = fail.items; piece = piece; calls = 0; faults = 0 } }
+        ensures { result
+            ≡ record { bytes = []; fail = fail.items; piece = piece; calls = 0; faults = 0 } }
     {
         MemSink {
             bytes: Vec::new(alloc),
@@ -161,8 +185,10 @@ impl Sink for MemSink {
         ensures takes { IfOk result (λ n. 0 < length piece.now → 1 ≤ n) }
         ensures kept { OnOk result (self.new.faults ≡ self.old.faults) }
         ensures failed { result ≡ Err WriteFault.Failed → self.old.faults < self.new.faults }
-        ensures memory { result ≡ Err (WriteFault.Memory alloc_error) → self.new.faults ≡ self.old.faults }
-        ensures listed { (result ≡ Err WriteFault.Failed) ↔ (is_listed self.old.calls self.old.fail ≡ true) }
+        ensures memory { result ≡ Err (WriteFault.Memory alloc_error)
+            → self.new.faults ≡ self.old.faults }
+        ensures listed { (result ≡ Err WriteFault.Failed)
+            ↔ (is_listed self.old.calls self.old.fail ≡ true) }
         ensures most { IfOk result (λ n. n ≡ min self.old.piece (length piece.now)) }
         ensures stays { (self.new.fail ≡ self.old.fail) × (self.new.piece ≡ self.old.piece) }
         ensures counted { self.new.calls ≡ calls_after self.old.calls }

@@ -44,6 +44,8 @@ pub trait Sink {
         ensures bytes { WriteAppends (seen self.old).bytes (seen self.new).bytes result piece.now }
         ensures takes { IfOk result (λ n. 0 < length piece.now → 1 ≤ n) }
         ensures kept { OnOk result ((seen self.new).faults ≡ (seen self.old).faults) }
-        ensures failed { result ≡ Err WriteFault.Failed → (seen self.old).faults < (seen self.new).faults }
-        ensures memory { result ≡ Err (WriteFault.Memory alloc_error) → (seen self.new).faults ≡ (seen self.old).faults };
+        ensures failed { result ≡ Err WriteFault.Failed
+            → (seen self.old).faults < (seen self.new).faults }
+        ensures memory { result ≡ Err (WriteFault.Memory alloc_error)
+            → (seen self.new).faults ≡ (seen self.old).faults };
 }

@@ -1,15 +1,14 @@
 -- Why a session ends as it does: each status has its cause, and each cause its status.
-use Rattle.std.proofs.Common.{◌≡◌, ◌∙◌, ◌⊎◌, ◌↔◌, ℕ, ◌+◌, ◌<◌, ◌≤◌, true, List, [], ◌∷◌, ◌++◌, length, map, take, slice_get, zero, suc, Option, None, Some, Ok, Err, IsSome, inl, inr, refl, sym, ap, subst, append_assoc, arith}
+use Rattle.std.proofs.Common.{◌≡◌, ◌≢◌, ◌∙◌, ◌⊎◌, ◌↔◌, ℕ, ◌+◌, ◌<◌, ◌≤◌, true, List, [], ◌∷◌, ◌++◌, length, map, take, slice_get, zero, suc, Option, None, Some, Ok, Err, IsSome, inl, inr, refl, sym, ap, subst, append_assoc, arith}
 use Rattle.std.proofs.lemmas.Bool.{cases_lt, false≢true}
-use Rattle.std.proofs.lemmas.List.{append-nil, append_cancel_left}
+use Rattle.std.proofs.lemmas.List.{append_cancel_left}
 use Rattle.std.proofs.lemmas.List.Elements.{Contains-append_right, Contains-push_cases}
 use Rattle.std.proofs.lemmas.Option.{none-some}
 use Rattle.std.specs.Io.KnownBytes.{IsAtEnd}
 use Rattle.std.specs.List.{Contains}
-use Rattle.kernel_model.proofs.Counts.{breaks-grown}
 use Rattle.kernel_model.specs.Journal.{entry}
 use Rattle.kernel_model.specs.Segment.{done, undone}
-use Rattle.kernel_model.specs.View.{KernelView, grown, breaks_of}
+use Rattle.kernel_model.specs.View.{KernelView, breaks_of, grown}
 use Rattle.kernel_model.specs.declared.request.Entry.{Entry}
 use Rattle.kernel_model.specs.declared.request.EntryKind.TheVariants.{Added, Refused}
 use Rattle.kernel_model.specs.declared.request.Request.{Request}
@@ -21,42 +20,22 @@ use Rattle.net_control.specs.declared.controller.StartFault.TheVariants as fault
 use Rattle.script_reader.specs.declared.line.Line.{Line}
 use Rattle.script_reader.specs.declared.line.Line.TheVariants as line
 use Rattle.script_reader.specs.declared.line.TraceLine.TheVariants as trace
-use Rattle.netd_session.proofs.Keeping.{IsInOrder, packet_stays, session_in_order, show_stays}
-use Rattle.netd_session.specs.Causes.{InGrammar, HasBadLine, RefusedStart, ComesWhere, NothingFailed, HasCauses, StandsThen, IsCausedSession}
+use Rattle.netd_session.proofs.Growing.{HasGrown, goes_grew, grew_by_none, grew_twice, never_falls, packet_stays, ran_grew, show_stays}
+use Rattle.netd_session.proofs.Tellings.{stopped}
+use Rattle.netd_session.specs.Answers.{IsAnsweredLine}
+use Rattle.netd_session.specs.Causes.{ComesWhere, HasBadLine, HasCauses, InGrammar, IsCausedSession, LeftUndone, NothingFailed, RefusedStart, StandsThen, ToldInPart, ToldWhole}
 use Rattle.netd_session.specs.EndedView.{EndedView}
-use Rattle.netd_session.specs.Ending.{World, AtInput, AtLine, AtStart, EndsInput, EndsStart, HasBegun, HasGiven, HasReadFault, HasRun}
-use Rattle.netd_session.specs.Talks.{EndsLine, HasWriteFault}
-use Rattle.netd_session.specs.Turns.{Standing, Goes, IsAnsweredLine, Ran, no_line, one_more}
+use Rattle.netd_session.specs.Ends.{AtInput, AtLine, AtStart, EndsInput, FailsToStart, HasBegun, HasEnded, HasRun, StopsWhere, at_input, at_line, at_start, before_line, not_begun, read_failed, read_whole, start_halted, start_refused as refused_at, too_long as input_too_long}
+use Rattle.netd_session.specs.Lines.{Goes, IsSaid, Ran, halt, no_line, one_more, says_answer, says_bad}
+use Rattle.netd_session.specs.Stops.{End, goes_on, status_of}
+use Rattle.netd_session.specs.Telling.{IsTaken, no_memory, sink_failed, taken_whole}
+use Rattle.netd_session.specs.Turns.{Standing}
+use Rattle.netd_session.specs.World.{World}
+use Rattle.netd_session.specs.declared.end.Status.{Status}
+use Rattle.netd_session.specs.declared.end.Status.TheVariants as status
+use Rattle.netd_session.specs.declared.end.Stop.{Stop}
+use Rattle.netd_session.specs.declared.end.Stop.TheVariants as stop
 use Rattle.netd_session.specs.declared.turn.Turn.{Turn}
-use Rattle.netd_session.specs.declared.status.Status.{Status}
-use Rattle.netd_session.specs.declared.status.Status.TheVariants as status
-
--- the journal grew
-abbrev pub HasGrown : (before after : KernelView) → Type 0
-HasGrown before after = (entries : List Entry) × (after ≡ grown before entries)
-
-grew_by_none : (before after : KernelView) → after ≡ before → HasGrown before after
-grew_by_none before after same = ([], same ∙ sym (ap (λ (entries : List Entry). record before { journal = entries }) (append-nil before.journal)))
-
-grew_twice : (a b c : KernelView) → HasGrown a b → HasGrown b c → HasGrown a c
-grew_twice a b c (xs, first) (ys, second) = (
-  xs ++ ys,
-  second ∙ (ap (λ (k : KernelView). grown k ys) first ∙ ap (λ (entries : List Entry). record a { journal = entries }) (append_assoc a.journal xs ys)),
-)
-
--- the count of breaks never falls
-never_falls : (before after : KernelView) → HasGrown before after → breaks_of before ≤ breaks_of after
-never_falls before after (entries, grew) = omega (arith, ap breaks_of grew ∙ breaks-grown before entries)
-
--- what a line does to the journal
-answered_grew : (l : Line) (n : ℕ) (s e : Standing) (turns : List Turn) (out : List ℕ) → IsAnsweredLine l n s e turns out → HasGrown s.kernel e.kernel
-answered_grew line.Blank n s e turns out is = grew_by_none s.kernel e.kernel (ap (λ (x : Standing). x.kernel) is.0)
-answered_grew (line.Control command) n s e turns out is = (is.moments.entries, is.moments.grew)
-answered_grew (line.Trace (trace.Made uid mark dest link)) n s e turns out is = grew_by_none s.kernel e.kernel (ap (λ (x : Standing). x.kernel) (packet_stays uid mark dest link n s e turns out is))
-answered_grew (line.Show question) n s e turns out is = grew_by_none s.kernel e.kernel (ap (λ (x : Standing). x.kernel) (show_stays question n s e turns out is))
-
-goes_grew : (text : List ℕ) (n : ℕ) (s e : Standing) (turns : List Turn) (out : List ℕ) → Goes text n s e turns out → HasGrown s.kernel e.kernel
-goes_grew text n s e turns out goes = answered_grew goes.line n s e turns out goes.answered
 
 -- what a line says of the breaks: none while the controller runs on, and one where it halts
 record Breaks (s e : Standing) : Type 0 where
@@ -92,11 +71,6 @@ goes_breaks : (text : List ℕ) (n : ℕ) (s e : Standing) (turns : List Turn) (
 goes_breaks text n s e turns out runs goes = answered_breaks goes.line n s e turns out runs goes.answered
 
 -- what lines that were answered in turn do
-ran_grew : {begun : Standing} {texts : List (List ℕ)} {e : Standing} {turns : List Turn} {out : List ℕ} → Ran begun texts e turns out → HasGrown begun.kernel e.kernel
-ran_grew {begun} no_line = grew_by_none begun.kernel begun.kernel refl
-ran_grew {begun} (one_more texts m turns out ran runs text e more more_out goes) =
-    grew_twice begun.kernel m.kernel e.kernel (ran_grew ran) (goes_grew text (length texts + 1) m e more more_out goes)
-
 ran_unbroken : {begun : Standing} {texts : List (List ℕ)} {e : Standing} {turns : List Turn} {out : List ℕ} → Ran begun texts e turns out
     → e.controller.halted ≡ None → BrokeNone begun.kernel e.kernel
 ran_unbroken no_line running = refl
@@ -160,240 +134,226 @@ module _ (old new : World) (lines : List (List ℕ)) where
   NotRefused = RefusedStart old.kernel new.kernel → ⊥
 
   -- what is known at each end
-  abbrev Known : Status → Type 0
-  Known status.Finished = (new.ended ≡ true) × AllInGrammar × BrokeNone old.kernel new.kernel × NotRefused
-  Known status.BadWords = ⊥
-  Known status.BadLine = HasBadLine lines × BrokeNone old.kernel new.kernel × NotRefused
-  Known status.ReadFault = AllInGrammar × BrokeNone old.kernel new.kernel × NotRefused
-  Known status.WriteFault = Unit {0}
-  Known status.Memory = Unit {0}
-  Known status.Halted = BrokeSome old.kernel new.kernel × NotRefused
-  Known status.StartRefused = RefusedStart old.kernel new.kernel × (HasBadLine lines → ⊥) × BrokeNone old.kernel new.kernel
-  Known status.TooLong = AllInGrammar × BrokeNone old.kernel new.kernel × NotRefused
+  abbrev Known : End → Type 0
+  Known (Ok u) = (new.source.ended ≡ true) × AllInGrammar × BrokeNone old.kernel new.kernel × NotRefused
+  Known (Err stop.BadLine) = HasBadLine lines × BrokeNone old.kernel new.kernel × NotRefused
+  Known (Err stop.ReadFault) = AllInGrammar × BrokeNone old.kernel new.kernel × NotRefused
+  Known (Err stop.WriteFault) = Unit {0}
+  Known (Err stop.Memory) = Unit {0}
+  Known (Err stop.Halted) = BrokeSome old.kernel new.kernel × NotRefused
+  Known (Err stop.StartRefused) = RefusedStart old.kernel new.kernel × (HasBadLine lines → ⊥) × BrokeNone old.kernel new.kernel
+  Known (Err stop.TooLong) = AllInGrammar × BrokeNone old.kernel new.kernel × NotRefused
 
   no_bad : AllInGrammar → HasBadLine lines → ⊥
   no_bad all (text, there, bad) = bad (all text there)
 
-  bad_line : (s : Status) → Known s → ComesWhere s status.BadLine (HasBadLine lines × BrokeNone old.kernel new.kernel)
-  bad_line status.Finished k = record { only = λ e. absurd cc; there = λ h. absurd (no_bad k.1 h.0) }
-  bad_line status.BadWords k = absurd k
-  bad_line status.BadLine k = record { only = λ _. (k.0, k.1); there = λ _. inl refl }
-  bad_line status.ReadFault k = record { only = λ e. absurd cc; there = λ h. absurd (no_bad k.0 h.0) }
-  bad_line status.WriteFault k = record { only = λ e. absurd cc; there = λ _. inr (inl refl) }
-  bad_line status.Memory k = record { only = λ e. absurd cc; there = λ _. inr (inr refl) }
-  bad_line status.Halted k = record { only = λ e. absurd cc; there = λ h. broke_both old.kernel new.kernel k.0 h.1 }
-  bad_line status.StartRefused k = record { only = λ e. absurd cc; there = λ h. absurd (k.1 h.0) }
-  bad_line status.TooLong k = record { only = λ e. absurd cc; there = λ h. absurd (no_bad k.0 h.0) }
+  bad_line : (e : End) → Known e → ComesWhere (status_of e) (status.Stopped stop.BadLine) (HasBadLine lines × BrokeNone old.kernel new.kernel)
+  bad_line (Ok u) k = record { only = λ e. absurd cc; there = λ h. absurd (no_bad k.1 h.0) }
+  bad_line (Err stop.BadLine) k = record { only = λ _. (k.0, k.1); there = λ _. inl refl }
+  bad_line (Err stop.ReadFault) k = record { only = λ e. absurd cc; there = λ h. absurd (no_bad k.0 h.0) }
+  bad_line (Err stop.WriteFault) k = record { only = λ e. absurd cc; there = λ _. inr (inl refl) }
+  bad_line (Err stop.Memory) k = record { only = λ e. absurd cc; there = λ _. inr (inr refl) }
+  bad_line (Err stop.Halted) k = record { only = λ e. absurd cc; there = λ h. broke_both old.kernel new.kernel k.0 h.1 }
+  bad_line (Err stop.StartRefused) k = record { only = λ e. absurd cc; there = λ h. absurd (k.1 h.0) }
+  bad_line (Err stop.TooLong) k = record { only = λ e. absurd cc; there = λ h. absurd (no_bad k.0 h.0) }
 
-  halted : (s : Status) → Known s → ComesWhere s status.Halted (BrokeSome old.kernel new.kernel)
-  halted status.Finished k = record { only = λ e. absurd cc; there = λ broke. broke_both old.kernel new.kernel broke k.2 }
-  halted status.BadWords k = absurd k
-  halted status.BadLine k = record { only = λ e. absurd cc; there = λ broke. broke_both old.kernel new.kernel broke k.1 }
-  halted status.ReadFault k = record { only = λ e. absurd cc; there = λ broke. broke_both old.kernel new.kernel broke k.1 }
-  halted status.WriteFault k = record { only = λ e. absurd cc; there = λ _. inr (inl refl) }
-  halted status.Memory k = record { only = λ e. absurd cc; there = λ _. inr (inr refl) }
-  halted status.Halted k = record { only = λ _. k.0; there = λ _. inl refl }
-  halted status.StartRefused k = record { only = λ e. absurd cc; there = λ broke. broke_both old.kernel new.kernel broke k.2 }
-  halted status.TooLong k = record { only = λ e. absurd cc; there = λ broke. broke_both old.kernel new.kernel broke k.1 }
+  halted : (e : End) → Known e → ComesWhere (status_of e) (status.Stopped stop.Halted) (BrokeSome old.kernel new.kernel)
+  halted (Ok u) k = record { only = λ e. absurd cc; there = λ broke. broke_both old.kernel new.kernel broke k.2 }
+  halted (Err stop.BadLine) k = record { only = λ e. absurd cc; there = λ broke. broke_both old.kernel new.kernel broke k.1 }
+  halted (Err stop.ReadFault) k = record { only = λ e. absurd cc; there = λ broke. broke_both old.kernel new.kernel broke k.1 }
+  halted (Err stop.WriteFault) k = record { only = λ e. absurd cc; there = λ _. inr (inl refl) }
+  halted (Err stop.Memory) k = record { only = λ e. absurd cc; there = λ _. inr (inr refl) }
+  halted (Err stop.Halted) k = record { only = λ _. k.0; there = λ _. inl refl }
+  halted (Err stop.StartRefused) k = record { only = λ e. absurd cc; there = λ broke. broke_both old.kernel new.kernel broke k.2 }
+  halted (Err stop.TooLong) k = record { only = λ e. absurd cc; there = λ broke. broke_both old.kernel new.kernel broke k.1 }
 
-  start_refused : (s : Status) → Known s → ComesWhere s status.StartRefused (RefusedStart old.kernel new.kernel)
-  start_refused status.Finished k = record { only = λ e. absurd cc; there = λ refused. absurd (k.3 refused) }
-  start_refused status.BadWords k = absurd k
-  start_refused status.BadLine k = record { only = λ e. absurd cc; there = λ refused. absurd (k.2 refused) }
-  start_refused status.ReadFault k = record { only = λ e. absurd cc; there = λ refused. absurd (k.2 refused) }
-  start_refused status.WriteFault k = record { only = λ e. absurd cc; there = λ _. inr (inl refl) }
-  start_refused status.Memory k = record { only = λ e. absurd cc; there = λ _. inr (inr refl) }
-  start_refused status.Halted k = record { only = λ e. absurd cc; there = λ refused. absurd (k.1 refused) }
-  start_refused status.StartRefused k = record { only = λ _. k.0; there = λ _. inl refl }
-  start_refused status.TooLong k = record { only = λ e. absurd cc; there = λ refused. absurd (k.2 refused) }
+  start_refused : (e : End) → Known e → ComesWhere (status_of e) (status.Stopped stop.StartRefused) (RefusedStart old.kernel new.kernel)
+  start_refused (Ok u) k = record { only = λ e. absurd cc; there = λ refused. absurd (k.3 refused) }
+  start_refused (Err stop.BadLine) k = record { only = λ e. absurd cc; there = λ refused. absurd (k.2 refused) }
+  start_refused (Err stop.ReadFault) k = record { only = λ e. absurd cc; there = λ refused. absurd (k.2 refused) }
+  start_refused (Err stop.WriteFault) k = record { only = λ e. absurd cc; there = λ _. inr (inl refl) }
+  start_refused (Err stop.Memory) k = record { only = λ e. absurd cc; there = λ _. inr (inr refl) }
+  start_refused (Err stop.Halted) k = record { only = λ e. absurd cc; there = λ refused. absurd (k.1 refused) }
+  start_refused (Err stop.StartRefused) k = record { only = λ _. k.0; there = λ _. inl refl }
+  start_refused (Err stop.TooLong) k = record { only = λ e. absurd cc; there = λ refused. absurd (k.2 refused) }
 
--- the counts by the status
-read_fault : (s : Status) (a b : ℕ) → HasReadFault s a b → (s ≡ status.ReadFault) ↔ (a < b)
-read_fault status.Finished a b h = ((λ e. absurd cc), (λ more. absurd (omega (arith, more, h))))
-read_fault status.BadWords a b h = ((λ e. absurd cc), (λ more. absurd (omega (arith, more, h))))
-read_fault status.BadLine a b h = ((λ e. absurd cc), (λ more. absurd (omega (arith, more, h))))
-read_fault status.ReadFault a b h = ((λ _. h), (λ _. refl))
-read_fault status.WriteFault a b h = ((λ e. absurd cc), (λ more. absurd (omega (arith, more, h))))
-read_fault status.Memory a b h = ((λ e. absurd cc), (λ more. absurd (omega (arith, more, h))))
-read_fault status.Halted a b h = ((λ e. absurd cc), (λ more. absurd (omega (arith, more, h))))
-read_fault status.StartRefused a b h = ((λ e. absurd cc), (λ more. absurd (omega (arith, more, h))))
-read_fault status.TooLong a b h = ((λ e. absurd cc), (λ more. absurd (omega (arith, more, h))))
-
-write_fault : (s : Status) (a b : ℕ) → HasWriteFault s a b → (s ≡ status.WriteFault) ↔ (a < b)
-write_fault status.Finished a b h = ((λ e. absurd cc), (λ more. absurd (omega (arith, more, h))))
-write_fault status.BadWords a b h = ((λ e. absurd cc), (λ more. absurd (omega (arith, more, h))))
-write_fault status.BadLine a b h = ((λ e. absurd cc), (λ more. absurd (omega (arith, more, h))))
-write_fault status.ReadFault a b h = ((λ e. absurd cc), (λ more. absurd (omega (arith, more, h))))
-write_fault status.WriteFault a b h = ((λ _. h), (λ _. refl))
-write_fault status.Memory a b h = ((λ e. absurd cc), (λ more. absurd (omega (arith, more, h))))
-write_fault status.Halted a b h = ((λ e. absurd cc), (λ more. absurd (omega (arith, more, h))))
-write_fault status.StartRefused a b h = ((λ e. absurd cc), (λ more. absurd (omega (arith, more, h))))
-write_fault status.TooLong a b h = ((λ e. absurd cc), (λ more. absurd (omega (arith, more, h))))
-
-too_long : (s : Status) (count : ℕ) → HasGiven s count → (s ≡ status.TooLong) ↔ (input_limit < count)
-too_long status.Finished count h = ((λ e. absurd cc), (λ more. absurd (omega (arith, more, h))))
-too_long status.BadWords count h = ((λ e. absurd cc), (λ more. absurd (omega (arith, more, h))))
-too_long status.BadLine count h = ((λ e. absurd cc), (λ more. absurd (omega (arith, more, h))))
-too_long status.ReadFault count h = ((λ e. absurd cc), (λ more. absurd (omega (arith, more, h))))
-too_long status.WriteFault count h = ((λ e. absurd cc), (λ more. absurd (omega (arith, more, h))))
-too_long status.Memory count h = ((λ e. absurd cc), (λ more. absurd (omega (arith, more, h))))
-too_long status.Halted count h = ((λ e. absurd cc), (λ more. absurd (omega (arith, more, h))))
-too_long status.StartRefused count h = ((λ e. absurd cc), (λ more. absurd (omega (arith, more, h))))
-too_long status.TooLong count h = ((λ _. omega (arith, h)), (λ _. refl))
+-- an end that comes exactly where its count says so
+exactly : (e : End) (s : Stop) {there other : Type 0} → StopsWhere e s there other → (there → other → ⊥) → (status_of e ≡ status.Stopped s) ↔ there
+exactly (Ok u) s (inl (is, here)) apart = absurd cc
+exactly (Err t) s (inl (is, here)) apart = ((λ _. here), (λ _. same))
+  where
+    same : status.Stopped t ≡ status.Stopped s
+    same = cc
+exactly (Ok u) s (inr (not, instead)) apart = ((λ e. absurd cc), (λ here. absurd (apart here instead)))
+exactly (Err t) s (inr (not, instead)) apart = ((λ e. absurd (not (same e))), (λ here. absurd (apart here instead)))
+  where
+    same : status.Stopped t ≡ status.Stopped s → stopped t ≡ Err s
+    same e = cc
 
 -- where nothing failed
-complete : (old new : World) (given : List ℕ) (lines : List (List ℕ)) (s : Status) → Known old new lines s
-    → HasGiven s (length given) → HasReadFault s old.read_faults new.read_faults → HasWriteFault s old.write_faults new.write_faults
-    → NothingFailed old new given lines → (s ≡ status.Finished) ⊎ (s ≡ status.Memory)
-complete old new given lines status.Finished k many read written none = inl refl
-complete old new given lines status.BadWords k many read written none = absurd k
-complete old new given lines status.BadLine k many read written none = absurd (no_bad old new lines none.in_grammar k.0)
-complete old new given lines status.ReadFault k many read written none = absurd (let same = none.no_read_fault in omega (arith, read, same))
-complete old new given lines status.WriteFault k many read written none = absurd (let same = none.no_write_fault in omega (arith, written, same))
-complete old new given lines status.Memory k many read written none = inr refl
-complete old new given lines status.Halted k many read written none = broke_both old.kernel new.kernel k.0 none.unbroken
-complete old new given lines status.StartRefused k many read written none = absurd (none.started k.0)
-complete old new given lines status.TooLong k many read written none = absurd (let few = none.short in omega (arith, many, few))
+complete : (old new : World) (given : List ℕ) (lines : List (List ℕ)) (e : End) → Known old new lines e
+    → (status_of e ≡ status.Stopped stop.TooLong → input_limit < length given)
+    → (status_of e ≡ status.Stopped stop.ReadFault → old.source.faults < new.source.faults)
+    → (status_of e ≡ status.Stopped stop.WriteFault → old.sink.faults < new.sink.faults)
+    → NothingFailed old new given lines → (status_of e ≡ status.Finished) ⊎ (status_of e ≡ status.Stopped stop.Memory)
+complete old new given lines (Ok u) k many read written none = inl refl
+complete old new given lines (Err stop.BadLine) k many read written none = absurd (no_bad old new lines none.in_grammar k.0)
+complete old new given lines (Err stop.ReadFault) k many read written none = absurd (omega (arith, read refl, none.no_read_fault))
+complete old new given lines (Err stop.WriteFault) k many read written none = absurd (omega (arith, written refl, none.no_write_fault))
+complete old new given lines (Err stop.Memory) k many read written none = inr refl
+complete old new given lines (Err stop.Halted) k many read written none = broke_both old.kernel new.kernel k.0 none.unbroken
+complete old new given lines (Err stop.StartRefused) k many read written none = absurd (none.started k.0)
+complete old new given lines (Err stop.TooLong) k many read written none = absurd (omega (arith, many refl, none.short))
+
+of_finished : (e : End) → status_of e ≡ status.Finished → e ≡ goes_on
+of_finished (Ok u) is = refl
+of_finished (Err s) is = absurd cc
+
+never_bad_words : (e : End) → status_of e ≢ status.BadWords
+never_bad_words (Ok u) is = absurd cc
+never_bad_words (Err s) is = absurd cc
 
 -- all causes, by what is known
-has_causes : (old new : World) (given : List ℕ) (lines : List (List ℕ)) (s : Status) → Known old new lines s
-    → HasGiven s (length given) → (new.ended ≡ true → IsAtEnd new.left)
-    → HasReadFault s old.read_faults new.read_faults → HasWriteFault s old.write_faults new.write_faults
-    → (old.kernel.journal ≡ [] → IsInOrder new.kernel) → HasCauses old new s given lines
-has_causes old new given lines s known many none_left read written order = record {
-  finished = λ e. let ended : new.ended ≡ true = (subst (λ (t : Status). Known old new lines t) e known).0 in (ended, none_left ended);
-  bad_words = λ e. subst (λ (t : Status). Known old new lines t) e known;
-  bad_line = bad_line old new lines s known;
-  read_fault = read_fault s old.read_faults new.read_faults read;
-  write_fault = write_fault s old.write_faults new.write_faults written;
-  halted = halted old new lines s known;
-  start_refused = start_refused old new lines s known;
-  too_long = too_long s (length given) many;
-  complete = complete old new given lines s known many read written;
-  bounded = λ none. (order none).few;
-  formed = λ none. (order none).formed;
+has_causes : (old new : World) (given : List ℕ) (lines : List (List ℕ)) (e : End) → Known old new lines e
+    → StopsWhere e stop.TooLong (length given ≡ input_limit + 1) (length given ≤ input_limit) → (new.source.ended ≡ true → IsAtEnd new.source.left)
+    → StopsWhere e stop.ReadFault (old.source.faults < new.source.faults) (new.source.faults ≡ old.source.faults)
+    → StopsWhere e stop.WriteFault (old.sink.faults < new.sink.faults) (new.sink.faults ≡ old.sink.faults) → HasCauses old new (status_of e) given lines
+has_causes old new given lines e known many none_left read written = record {
+  finished = λ is. let ended : new.source.ended ≡ true = (subst (λ (t : End). Known old new lines t) (of_finished e is) known).0 in (ended, none_left ended);
+  bad_words = never_bad_words e;
+  bad_line = bad_line old new lines e known;
+  read_fault = read_fault;
+  write_fault = write_fault;
+  halted = halted old new lines e known;
+  start_refused = start_refused old new lines e known;
+  too_long = too_long;
+  complete = complete old new given lines e known too_long.0 read_fault.0 write_fault.0;
 }
+  where
+    read_fault : (status_of e ≡ status.Stopped stop.ReadFault) ↔ (old.source.faults < new.source.faults)
+    read_fault = exactly e stop.ReadFault read (λ more same. omega (arith, more, same))
 
--- what is known where the start fails
+    write_fault : (status_of e ≡ status.Stopped stop.WriteFault) ↔ (old.sink.faults < new.sink.faults)
+    write_fault = exactly e stop.WriteFault written (λ more same. omega (arith, more, same))
+
+    one_more_byte : (length given ≡ input_limit + 1) → input_limit < length given
+    one_more_byte is = omega (arith, is)
+
+    wider : StopsWhere e stop.TooLong (length given ≡ input_limit + 1) (length given ≤ input_limit) → StopsWhere e stop.TooLong (input_limit < length given) (length given ≤ input_limit)
+    wider (inl (is, count)) = inl (is, one_more_byte count)
+    wider (inr other) = inr other
+
+    too_long : (status_of e ≡ status.Stopped stop.TooLong) ↔ (input_limit < length given)
+    too_long = exactly e stop.TooLong (wider many) (λ more few. omega (arith, more, few))
+
 no_line_met : (lines : List (List ℕ)) → lines ≡ [] → HasBadLine lines → ⊥
 no_line_met lines none (text, there, bad) = absurd (let here = subst (λ (l : List (List ℕ)). Contains l text) none there in omega (arith, here.1))
 
-known_at_start : (old new : World) (lines : List (List ℕ)) (s : Status) (text : List ℕ) (taken : ℕ) → lines ≡ [] → EndsStart s old.kernel new.kernel text taken → Known old new lines s
-known_at_start old new lines status.Finished text taken none ends = absurd ends
-known_at_start old new lines status.BadWords text taken none ends = absurd ends
-known_at_start old new lines status.BadLine text taken none ends = absurd ends
-known_at_start old new lines status.ReadFault text taken none ends = absurd ends
-known_at_start old new lines status.WriteFault text taken none ends = tt
-known_at_start old new lines status.Memory text taken none ends = tt
-known_at_start old new lines status.Halted text taken none ((request, started, moments, says), whole) =
-    let broke : BrokeSome old.kernel new.kernel = (has_start_cause (Err (fault.Halted request)) old.kernel new.kernel started).halted.0 (request, refl) in
-    (broke, λ refused. broke_both old.kernel new.kernel broke (refused_unbroken old.kernel new.kernel refused))
-known_at_start old new lines status.StartRefused text taken none ((request, started, moments, says), whole) =
-    ((request, started), no_line_met lines none, refused_unbroken old.kernel new.kernel (request, started))
-known_at_start old new lines status.TooLong text taken none ends = absurd ends
-
--- what is known behind lines that were answered
+-- what is known after lines that were answered
 module _ (old new : World) (lines : List (List ℕ)) (stands : Standing) (turns : List Turn) (out : List ℕ) (run : HasRun old lines stands turns out) where
-  run_unbroken : stands.controller.halted ≡ None → BrokeNone old.kernel stands.kernel
-  run_unbroken running = ran_unbroken run.ran running ∙ began_unbroken old.kernel run.begun run.began
+  run_unbroken : BrokeNone old.kernel stands.kernel
+  run_unbroken = ran_unbroken run.ran run.running ∙ began_unbroken old.kernel run.begun run.began
 
   run_not_refused : (after : KernelView) → HasGrown stands.kernel after → RefusedStart old.kernel after → ⊥
   run_not_refused after grew = not_refused old.kernel run.begun.kernel after run.began.started.0 (grew_twice run.begun.kernel stands.kernel after (ran_grew run.ran) grew)
 
--- what is known at a line
-known_at_line : (old new : World) (ended : EndedView) (lines : List (List ℕ)) (out : List ℕ) (at : AtLine old new ended lines out) (s : Status)
-    → EndsLine s at.text (length at.before + 1) at.stood at.stands at.more at.last at.taken → Known old new lines s
-known_at_line old new ended lines out at status.Finished ends = absurd ends
-known_at_line old new ended lines out at status.BadWords ends = absurd ends
-known_at_line old new ended lines out at status.BadLine ends = (
-  (at.text, subst (λ (l : List (List ℕ)). Contains l at.text) (sym at.cut) (Contains-append_right at.before (at.text ∷ at.behind) at.text (0, omega arith, refl)), λ spelled. ends.0.no_line spelled.0 spelled.1),
-  ap breaks_of kernel_is ∙ run_unbroken old new at.before at.stood at.turns at.said at.run at.running,
-  run_not_refused old new at.before at.stood at.turns at.said at.run new.kernel (grew_by_none at.stood.kernel new.kernel kernel_is),
-)
-  where
-    kernel_is : new.kernel ≡ at.stood.kernel
-    kernel_is = at.kernel_is ∙ ap (λ (x : Standing). x.kernel) ends.0.stays
-known_at_line old new ended lines out at status.ReadFault ends = absurd ends
-known_at_line old new ended lines out at status.WriteFault ends = tt
-known_at_line old new ended lines out at status.Memory ends = tt
-known_at_line old new ended lines out at status.Halted ends = (
-  broke,
-  run_not_refused old new at.before at.stood at.turns at.said at.run new.kernel
-      (subst (λ (k : KernelView). HasGrown at.stood.kernel k) (sym at.kernel_is) (goes_grew at.text (length at.before + 1) at.stood at.stands at.more at.last ends.0)),
-)
-  where
-    broke_here : BrokeSome at.stood.kernel at.stands.kernel
-    broke_here = (goes_breaks at.text (length at.before + 1) at.stood at.stands at.more at.last at.running ends.0).some ends.1
-
-    broke : BrokeSome old.kernel new.kernel
-    broke = omega (arith, broke_here, run_unbroken old new at.before at.stood at.turns at.said at.run at.running, ap breaks_of at.kernel_is)
-known_at_line old new ended lines out at status.StartRefused ends = absurd ends
-known_at_line old new ended lines out at status.TooLong ends = absurd ends
-
--- what is known at the end of the input
-module _ (old new : World) (ended : EndedView) (given : List ℕ) (lines : List (List ℕ)) (out : List ℕ) (at : AtInput old new ended given lines out) where
-  all_known : AllInGrammar old new lines × BrokeNone old.kernel new.kernel × NotRefused old new lines
-  all_known = (
-    ran_in_grammar at.run.ran,
-    ap breaks_of at.kernel_is ∙ run_unbroken old new lines at.stands ended.turns out at.run at.running,
-    run_not_refused old new lines at.stands ended.turns out at.run new.kernel (grew_by_none at.stands.kernel new.kernel at.kernel_is),
-  )
-
-  known_at_input : (s : Status) → EndsInput s new.ended (length given) → Known old new lines s
-  known_at_input status.Finished ends = (ends.0, all_known.0, all_known.1, all_known.2)
-  known_at_input status.BadWords ends = absurd ends
-  known_at_input status.BadLine ends = absurd ends
-  known_at_input status.ReadFault ends = all_known
-  known_at_input status.WriteFault ends = absurd ends
-  known_at_input status.Memory ends = absurd ends
-  known_at_input status.Halted ends = absurd ends
-  known_at_input status.StartRefused ends = absurd ends
-  known_at_input status.TooLong ends = all_known
-
--- what stands then
 module _ (old new : World) (ended : EndedView) (given : List ℕ) (lines : List (List ℕ)) (out : List ℕ) where
-  stands_at_start : (at : AtStart old new ended given lines out) (s : Status) → EndsStart s old.kernel new.kernel at.text at.taken → StandsThen s old new ended given lines out
-  stands_at_start at status.Finished ends = absurd ends
-  stands_at_start at status.BadWords ends = absurd ends
-  stands_at_start at status.BadLine ends = absurd ends
-  stands_at_start at status.ReadFault ends = absurd ends
-  stands_at_start at status.WriteFault ends = inr (at, ends.1)
-  stands_at_start at status.Memory ends = inr at
-  stands_at_start at status.Halted ends = inr (at, ends.1)
-  stands_at_start at status.StartRefused ends = inr (at, ends.1)
-  stands_at_start at status.TooLong ends = absurd ends
+  -- what is known of an end, and what stands then
+  record Ended (e : End) : Type 0 where
+    known : Known old new lines e
+    stands : StandsThen (status_of e) old new ended given lines out
 
-  stands_at_line : (at : AtLine old new ended lines out) (s : Status) → EndsLine s at.text (length at.before + 1) at.stood at.stands at.more at.last at.taken
-      → StandsThen s old new ended given lines out
-  stands_at_line at status.Finished ends = absurd ends
-  stands_at_line at status.BadWords ends = absurd ends
-  stands_at_line at status.BadLine ends = inl (at, ends.1)
-  stands_at_line at status.ReadFault ends = absurd ends
-  stands_at_line at status.WriteFault ends = inl (at, ends.1)
-  stands_at_line at status.Memory ends = inl at
-  stands_at_line at status.Halted ends = inl (at, ends.2)
-  stands_at_line at status.StartRefused ends = absurd ends
-  stands_at_line at status.TooLong ends = absurd ends
+  same_end : (e f : End) → e ≡ f → Ended f → Ended e
+  same_end e f is known = subst Ended (sym is) known
 
-  stands_at_input : (at : AtInput old new ended given lines out) (s : Status) → EndsInput s new.ended (length given) → StandsThen s old new ended given lines out
-  stands_at_input at status.Finished ends = at
-  stands_at_input at status.BadWords ends = absurd ends
-  stands_at_input at status.BadLine ends = absurd ends
-  stands_at_input at status.ReadFault ends = at
-  stands_at_input at status.WriteFault ends = absurd ends
-  stands_at_input at status.Memory ends = absurd ends
-  stands_at_input at status.Halted ends = absurd ends
-  stands_at_input at status.StartRefused ends = absurd ends
-  stands_at_input at status.TooLong ends = at
+  in_part : ToldInPart old new ended given lines out → Ended (Err stop.WriteFault)
+  in_part told = record { known = tt; stands = told }
 
-  known_and_stands : AtStart old new ended given lines out ⊎ (AtLine old new ended lines out ⊎ AtInput old new ended given lines out)
-      → Known old new lines ended.status × StandsThen ended.status old new ended given lines out
-  known_and_stands (inl at) = (known_at_start old new lines ended.status at.text at.taken at.nothing_met at.ends, stands_at_start at ended.status at.ends)
-  known_and_stands (inr (inl at)) = (known_at_line old new ended lines out at ended.status at.ends, stands_at_line at ended.status at.ends)
-  known_and_stands (inr (inr at)) = (known_at_input old new ended given lines out at ended.status at.ends, stands_at_input at ended.status at.ends)
+  in_part_for_memory : ToldInPart old new ended given lines out → Ended (Err stop.Memory)
+  in_part_for_memory told = record { known = tt; stands = inl told }
+
+  -- the start failed
+  known_at_start : (at : AtStart old new ended given lines out) (whole : End) → FailsToStart old.kernel new.kernel at.text whole
+      → IsTaken whole ended.result at.taken (length at.text) old.sink.faults new.sink.faults → Ended ended.result
+  known_at_start at whole failed (sink_failed is few more) = same_end ended.result (Err stop.WriteFault) is (in_part (inr (at, few)))
+  known_at_start at whole failed (no_memory is few kept) = same_end ended.result (Err stop.Memory) is (in_part_for_memory (inr (at, few)))
+  known_at_start at whole (refused_at request started says same) (taken_whole is full kept) =
+      same_end ended.result (Err stop.StartRefused) (is ∙ same) record {
+        known = ((request, started), no_line_met lines at.nothing_met, refused_unbroken old.kernel new.kernel (request, started));
+        stands = inr (at, full);
+      }
+  known_at_start at whole (start_halted request started says same) (taken_whole is full kept) =
+      same_end ended.result (Err stop.Halted) (is ∙ same) record {
+        known = (broke, λ refused. broke_both old.kernel new.kernel broke (refused_unbroken old.kernel new.kernel refused));
+        stands = inr (at, full);
+      }
+    where
+      broke : BrokeSome old.kernel new.kernel
+      broke = (has_start_cause (Err (fault.Halted request)) old.kernel new.kernel started).halted.0 (request, refl)
+
+  -- the session ended at a line
+  known_at_line : (at : AtLine old new ended lines out) (whole : End) → IsSaid at.text (length at.before + 1) at.stood at.stands at.more at.last whole
+      → IsTaken whole ended.result at.taken (length at.last) old.sink.faults new.sink.faults → Ended ended.result
+  known_at_line at whole said (sink_failed is few more) = same_end ended.result (Err stop.WriteFault) is (in_part (inl (at, few)))
+  known_at_line at whole said (no_memory is few kept) = same_end ended.result (Err stop.Memory) is (in_part_for_memory (inl (at, few)))
+  known_at_line at whole (says_bad bad same) (taken_whole is full kept) =
+      same_end ended.result (Err stop.BadLine) (is ∙ same) record {
+        known = (
+          (at.text, subst (λ (l : List (List ℕ)). Contains l at.text) (sym at.cut) (Contains-append_right at.before (at.text ∷ at.behind) at.text (0, omega arith, refl)), λ spelled. bad.no_line spelled.0 spelled.1),
+          ap breaks_of kernel_is ∙ run_unbroken old new at.before at.stood at.turns at.told_before at.run,
+          run_not_refused old new at.before at.stood at.turns at.told_before at.run new.kernel (grew_by_none at.stood.kernel new.kernel kernel_is),
+        );
+        stands = inl (at, full);
+      }
+    where
+      kernel_is : new.kernel ≡ at.stood.kernel
+      kernel_is = at.kernel_is ∙ ap (λ (x : Standing). x.kernel) bad.stays
+  known_at_line at whole (says_answer goes same) (taken_whole is full kept) = by at.stands.controller.halted refl
+    where
+      broke_here : IsSome at.stands.controller.halted → BrokeSome at.stood.kernel at.stands.kernel
+      broke_here some = (goes_breaks at.text (length at.before + 1) at.stood at.stands at.more at.last at.run.running goes).some some
+
+      broke : IsSome at.stands.controller.halted → BrokeSome old.kernel new.kernel
+      broke some = omega (arith, broke_here some, run_unbroken old new at.before at.stood at.turns at.told_before at.run, ap breaks_of at.kernel_is)
+
+      by : (h : Option ℕ) → at.stands.controller.halted ≡ h → Ended ended.result
+      by None on = absurd (at.stops (is ∙ same ∙ ap halt on))
+      by (Some request) on = same_end ended.result (Err stop.Halted) (is ∙ same ∙ ap halt on) record {
+        known = (
+          broke (subst (λ (o : Option ℕ). IsSome o) (sym on) refl),
+          run_not_refused old new at.before at.stood at.turns at.told_before at.run new.kernel
+              (subst (λ (k : KernelView). HasGrown at.stood.kernel k) (sym at.kernel_is) (goes_grew at.text (length at.before + 1) at.stood at.stands at.more at.last goes)),
+        );
+        stands = inl (at, full);
+      }
+
+  -- the session ended with the input
+  known_at_input : (at : AtInput old new ended given lines out) → EndsInput ended.result new.source.ended (length given) old.source.faults new.source.faults → Ended ended.result
+  known_at_input at = by
+    where
+      in_grammar : (text : List ℕ) → Contains lines text → InGrammar text
+      in_grammar = ran_in_grammar at.run.ran
+
+      unbroken : BrokeNone old.kernel new.kernel
+      unbroken = ap breaks_of at.kernel_is ∙ run_unbroken old new lines at.stands ended.turns out at.run
+
+      unrefused : RefusedStart old.kernel new.kernel → ⊥
+      unrefused = run_not_refused old new lines at.stands ended.turns out at.run new.kernel (grew_by_none at.stands.kernel new.kernel at.kernel_is)
+
+      by : EndsInput ended.result new.source.ended (length given) old.source.faults new.source.faults → Ended ended.result
+      by (read_whole is at_end few same) = same_end ended.result goes_on is record { known = (at_end, in_grammar, unbroken, unrefused); stands = at }
+      by (read_failed is few more) = same_end ended.result (Err stop.ReadFault) is record { known = (in_grammar, unbroken, unrefused); stands = at }
+      by (input_too_long is count same) = same_end ended.result (Err stop.TooLong) is record { known = (in_grammar, unbroken, unrefused); stands = at }
+
+  known_and_stands : HasEnded old new ended given lines out → Ended ended.result
+  known_and_stands (not_begun at) = same_end ended.result (Err stop.Memory) at.no_memory record { known = tt; stands = inr (inr at) }
+  known_and_stands (at_start at) = known_at_start at at.whole at.failed at.told
+  known_and_stands (at_line at) = known_at_line at at.whole at.said at.told
+  known_and_stands (before_line at) = same_end ended.result (Err stop.Memory) at.no_memory record { known = tt; stands = inr (inl at) }
+  known_and_stands (at_input at) = known_at_input at at.ends
 
 -- the causes of a session
 pub caused_session : (old new : World) (ended : EndedView) → IsCausedSession old new ended
 caused_session old new ended s =
     let both = known_and_stands old new ended s.given s.lines s.out s.ending in
-    (has_causes old new s.given s.lines ended.status both.0 s.few s.none_left s.read_fault s.write_fault (session_in_order old new ended s), both.1)
+    (has_causes old new s.given s.lines ended.result both.known s.few s.none_left s.read_fault s.write_fault, both.stands)

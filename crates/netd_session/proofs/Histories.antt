@@ -1,31 +1,29 @@
 -- The whole journal of a session, moment by moment.
-use Rattle.std.proofs.Common.{◌≡◌, ◌≢◌, ◌∙◌, ◌⊎◌, ◌↔◌, ℕ, zero, suc, ◌+◌, ◌-◌, ◌≤◌, Bool, true, false, ◌&&◌, not, List, [], ◌∷◌, ◌++◌, length, take, filter, Option, None, Some, Err, IsSome, IsTrue, slice_get, inl, inr, refl, sym, ap, subst, append_assoc, arith, length-append}
+use Rattle.std.proofs.Common.{◌≡◌, ◌≢◌, ◌∙◌, ◌⊎◌, ◌↔◌, ℕ, ◌+◌, ◌-◌, ◌≤◌, Bool, true, false, ◌&&◌, not, List, [], ◌∷◌, ◌++◌, length, take, filter, Option, None, Some, Result, Ok, Err, IsSome, IsTrue, inl, inr, refl, sym, ap, subst, append_assoc, arith, length-append}
 use Rattle.std.proofs.lemmas.Bool.{cases_lt, false≢true}
 use Rattle.std.proofs.lemmas.List.{append-nil, take_all, take-append-le}
 use Rattle.std.proofs.lemmas.List.Elements.{Contains-append_right}
 use Rattle.std.proofs.lemmas.Option.{none-some}
 use Rattle.std.proofs.Math.Seq.{take-append_seam}
 use Rattle.std.specs.List.{AllByRecursion, Contains}
+use Rattle.std.specs.declared.alloc.AllocError.{AllocError}
+use Rattle.std.specs.Prelude.{alloc_error}
 use Rattle.list_lemmas.proofs.Alls.{all-append}
 use Rattle.kernel_model.proofs.Replays.{replay-append}
 use Rattle.kernel_model.proofs.Stopped.{moments_go_on}
 use Rattle.kernel_model.specs.Journal.{is_broken, is_refused, replay, replay_from}
 use Rattle.kernel_model.specs.Moments.{moment, moment_from}
-use Rattle.kernel_model.specs.Segment.{undone}
 use Rattle.kernel_model.specs.State.{KernelState, start as kernel_start}
 use Rattle.kernel_model.specs.Switch.{walk_along}
 use Rattle.kernel_model.specs.View.{KernelView, grown, state_of}
 use Rattle.kernel_model.specs.Walk.{walk}
 use Rattle.kernel_model.specs.declared.request.Entry.{Entry}
-use Rattle.kernel_model.specs.declared.request.Request.{Request}
-use Rattle.net_control.proofs.Policed.{at_each as at_either, stays as nothing_asked}
+use Rattle.net_control.proofs.Once.{start_as_before}
+use Rattle.net_control.proofs.Policed.{at_each as at_either, at_same, stays as nothing_asked}
 use Rattle.net_control.specs.Applied.{IsAnswered, code_of}
 use Rattle.net_control.specs.Causes.{BrokeNone, RefusedNone}
 use Rattle.net_control.specs.Moments.{KeepsPolicy, SendsByPolicy}
-use Rattle.net_control.specs.Started.{IsStarted, start_adds}
 use Rattle.net_control.specs.View.{ControllerView}
-use Rattle.net_control.specs.declared.controller.Answer.{Answer}
-use Rattle.net_control.specs.declared.controller.Answer.TheVariants as answer
 use Rattle.net_control.specs.declared.controller.StartFault.TheVariants as fault
 use Rattle.policy_meaning.specs.Policy.{IsBarred, policy}
 use Rattle.policy_meaning.specs.Promise.{StaysIn}
@@ -41,16 +39,21 @@ use Rattle.script_reader.specs.Lines.{Spells}
 use Rattle.script_reader.specs.declared.line.Line.{Line}
 use Rattle.script_reader.specs.declared.line.Line.TheVariants as line
 use Rattle.script_reader.specs.declared.line.TraceLine.TheVariants as trace
-use Rattle.netd_session.proofs.Keeping.{packet_stays, show_stays}
+use Rattle.turn_text.specs.declared.answer.Answer.{Answer}
+use Rattle.turn_text.specs.declared.answer.Answer.TheVariants as answer
+use Rattle.netd_session.proofs.Growing.{packet_stays, show_stays}
+use Rattle.netd_session.proofs.Tellings.{not_with_input}
+use Rattle.netd_session.specs.Answers.{IsAnsweredLine, IsCommanded}
 use Rattle.netd_session.specs.EndedView.{EndedView}
-use Rattle.netd_session.specs.Ending.{World, AtInput, AtLine, AtStart, EndsStart, HasBegun, HasRun, StartFails}
-use Rattle.netd_session.specs.History.{Part, asked_of, behind, left_by, Runs, Follow, AllRunButLast, AreSaid, the_start, a_command, another, Holds, LiesIn, asked, History, HasHistory}
-use Rattle.netd_session.specs.Says.{Says}
-use Rattle.netd_session.specs.Talks.{EndsLine}
-use Rattle.netd_session.specs.Turns.{Standing, Goes, IsAnsweredLine, IsCommanded, Ran, no_line, one_more}
-use Rattle.netd_session.specs.declared.status.Status.{Status}
-use Rattle.netd_session.specs.declared.status.Status.TheVariants as status
-use Rattle.netd_session.specs.declared.turn.Said.{Said}
+use Rattle.netd_session.specs.Ends.{FailsToStart, HasBegun, HasEnded, HasRun, at_input, at_line, at_start, before_line, not_begun, start_halted, start_refused}
+use Rattle.netd_session.specs.History.{Part, asked_of, behind, left_by, Runs, Follow, AllRunButLast, AreSaid, the_start, a_command, another, Holds, LiesIn, asked, turn_of_part, History, HasHistory}
+use Rattle.netd_session.specs.Lines.{Goes, IsSaid, Ran, no_line, one_more, says_answer, says_bad}
+use Rattle.netd_session.specs.Stops.{End, ends_with_input, status_of}
+use Rattle.netd_session.specs.Telling.{IsTaken, no_memory, sink_failed, taken_whole}
+use Rattle.netd_session.specs.Turns.{Standing}
+use Rattle.netd_session.specs.World.{World}
+use Rattle.netd_session.specs.declared.end.Status.{Status}
+use Rattle.netd_session.specs.declared.end.Status.TheVariants as status
 use Rattle.netd_session.specs.declared.turn.Said.TheVariants as said
 use Rattle.netd_session.specs.declared.turn.Turn.{Turn}
 
@@ -74,16 +77,6 @@ same_over {last} {at} {other} {old} {new} same goes = record {
   behind = λ i l b. same i l ∙ goes.behind i l b;
 }
 
--- between two names of one value
-at_each : {last : ℕ} {at : ℕ → Verdict} {v : Verdict} → GoesOverAndBack last at v v → (i : ℕ) → i ≤ last → at i ≡ v
-at_each {last} {at} {v} goes i within = elim (cases_lt i goes.over) as (λ _. at i ≡ v) [
-  | inl front ↦ goes.before i within front
-  | inr over ↦ elim (cases_lt i goes.back) as (λ _. at i ≡ v) [
-    | inl front ↦ goes.between i within over front
-    | inr behind ↦ goes.behind i within behind
-  ]
-]
-
 -- what a part of a kernel's journal is of the whole journal
 module _ (before after : KernelView) (es rest : List Entry) (grew : after ≡ grown before es) where
   whole_is : after.journal ++ rest ≡ before.journal ++ (es ++ rest)
@@ -103,13 +96,13 @@ module _ (before after : KernelView) (es rest : List Entry) (grew : after ≡ gr
       ap (λ (l : List Entry). moment l (length before.journal + i)) whole_is ∙ moments_go_on before.journal (es ++ rest) i
       ∙ ap (replay_from (state_of before)) (take-append-le i es rest within)
 
-  holds : (command : Option Command) (a : Answer) (old : StateView)
+  holds : (command : Option Command) (a : Result Answer AllocError) (old : StateView)
       → ((packet : Packet) → GoesOverAndBack (length es) (walk_along (state_of before) packet es) (policy old packet) (policy (asked_of old command) packet))
       → (RefusedNone before after → (packet : Packet) → GoesOver (length es) (walk_along (state_of before) packet es) (policy old packet) (policy (asked_of old command) packet))
       → ((packet : Packet) → IsBarred old packet → IsBarred (asked_of old command) packet → packet.uid.number ≢ 0 → (i : ℕ) → i ≤ length es → StaysIn (walk_along (state_of before) packet es i))
-      → (((request : ℕ) → a ≢ answer.Halted request) → (packet : Packet) → walk (state_of after) packet ≡ policy (behind (record { command = command; answer = a; old = old; from = 0; count = 0 })) packet)
-      → ((request : ℕ) → a ≡ answer.KernelRefused request → state_of after ≡ state_of before)
-      → ((c : Command) → command ≡ Some c → (a ≡ answer.Done) ↔ ((code_of old before.journal c ≡ None) × RefusedNone before after × BrokeNone before after))
+      → (((request : ℕ) → a ≢ Ok (answer.Halted request)) → (packet : Packet) → walk (state_of after) packet ≡ policy (behind (record { command = command; answer = a; old = old; from = 0; count = 0 })) packet)
+      → ((request : ℕ) → a ≡ Ok (answer.KernelRefused request) → state_of after ≡ state_of before)
+      → ((c : Command) → command ≡ Some c → (a ≡ Ok answer.Done) ↔ ((code_of old before.journal c ≡ None) × RefusedNone before after × BrokeNone before after))
       → Holds (after.journal ++ rest) (record { command = command; answer = a; old = old; from = length before.journal; count = length es })
   holds command a old policies once barred sends same done = record {
     keeps_policy = λ packet. same_over_and_back (at_walk packet) (policies packet);
@@ -142,31 +135,25 @@ module _ (before after : KernelView) (es rest : List Entry) (grew : after ≡ gr
           → length (filter is_broken (take (length before.journal + length es) (after.journal ++ rest))) ≡ length (filter is_broken (take (length before.journal) (after.journal ++ rest)))
       unbroken e = ap (λ (j : List Entry). length (filter is_broken j)) all ∙ e ∙ sym (ap (λ (j : List Entry). length (filter is_broken j)) front)
 
--- behind a command the policy has the state that its answer says
-state_behind : (a : Answer) (command : Command) (old new : ControllerView) (before after : KernelView) → IsAnswered a command old new before after
-    → new.state ≡ left_by a old.state (changed old.state command)
+-- an answer for which there was memory
+abbrev made : Answer → Result Answer AllocError
+made a = Ok a
+
+-- after a command the policy has the state that its answer says
+state_behind : (a : Answer) (command : Command) (old new : ControllerView) (before after : KernelView) → IsAnswered (Ok a) command old new before after
+    → new.state ≡ left_by (Ok a) old.state (changed old.state command)
 state_behind answer.Done command old new before after is = ap (λ (c : ControllerView). c.state) is.2
 state_behind (answer.Refused c) command old new before after is = ap (λ (c : ControllerView). c.state) is.3
 state_behind (answer.KernelRefused q) command old new before after is = ap (λ (c : ControllerView). c.state) is.2
 state_behind (answer.Halted q) command old new before after (inl is) = ap (λ (c : ControllerView). c.state) is.2
 state_behind (answer.Halted q) command old new before after (inr is) = ap (λ (c : ControllerView). c.state) is.2
-state_behind answer.NoMemory command old new before after is = ap (λ (c : ControllerView). c.state) is.2
 
-goes_on : (a : Answer) (command : Command) (old new : ControllerView) (before after : KernelView) → IsAnswered a command old new before after
-    → ((request : ℕ) → a ≢ answer.Halted request) → new.halted ≡ None
+goes_on : (a : Answer) (command : Command) (old new : ControllerView) (before after : KernelView) → IsAnswered (Ok a) command old new before after
+    → ((request : ℕ) → made a ≢ Ok (answer.Halted request)) → new.halted ≡ None
 goes_on answer.Done command old new before after is runs = ap (λ (c : ControllerView). c.halted) is.2
 goes_on (answer.Refused c) command old new before after is runs = ap (λ (c : ControllerView). c.halted) is.3 ∙ is.0
 goes_on (answer.KernelRefused q) command old new before after is runs = ap (λ (c : ControllerView). c.halted) is.2 ∙ is.0.runs
 goes_on (answer.Halted q) command old new before after is runs = absurd (runs q refl)
-goes_on answer.NoMemory command old new before after is runs = ap (λ (c : ControllerView). c.halted) is.2 ∙ is.0
-
--- of want of memory no turn speaks
-says_more : (what : Said) → Says what answer.NoMemory → ⊥
-says_more said.Done h = h
-says_more (said.Refused c) h = h
-says_more (said.KernelRefused q) h = h
-says_more (said.Halted q) h = h
-says_more _ h = h
 
 follow_on : (parts : List Part) (at : ℕ) (s : StateView) (end : ℕ) (last : StateView) (p : Part) (new_end : ℕ) (new_last : StateView) → Follow at s parts end last
     → p.from ≡ end → p.old ≡ last → new_end ≡ p.from + p.count → new_last ≡ behind p → Follow at s (parts ++ p ∷ []) new_end new_last
@@ -223,71 +210,71 @@ lies_in journal parts i found =
     }
 
 -- there's a part
-not_none : {A : Type 0} (texts : List (List ℕ)) (parts : List Part) → AreSaid texts parts → parts ≡ [] → A
-not_none texts parts (the_start p is) e = absurd cc
-not_none texts parts (a_command before front said text command p spells is) e = absurd (snoc_some front p e)
+not_none : {A : Type 0} (texts : List (List ℕ)) (parts : List Part) (turns : List Turn) → AreSaid texts parts turns → parts ≡ [] → A
+not_none texts parts turns (the_start p is) e = absurd cc
+not_none texts parts turns (a_command before front said_before said text command p a spells is answered) e = absurd (snoc_some front p e)
   where
     snoc_some : (qs : List Part) (q : Part) → qs ++ q ∷ [] ≡ [] → ⊥
     snoc_some [] q e = absurd cc
     snoc_some (r ∷ qs) q e = absurd cc
-not_none texts parts (another before front said text l spells other) e = not_none before front said e
+not_none texts parts turns (another before front said_before said text l more spells other) e = not_none before front said_before said e
 
-all_lie_in : (journal : List Entry) (texts : List (List ℕ)) (parts : List Part) (last : StateView) → AreSaid texts parts → Follow 0 start parts (length journal) last
-    → AllByRecursion (Holds journal) parts → (i : ℕ) → i ≤ length journal → LiesIn journal parts i
-all_lie_in journal texts [] last said is each i within = not_none texts [] said refl
-all_lie_in journal texts (p ∷ parts) last said is each i within =
+all_lie_in : (journal : List Entry) (texts : List (List ℕ)) (parts : List Part) (turns : List Turn) (last : StateView) → AreSaid texts parts turns
+    → Follow 0 start parts (length journal) last → AllByRecursion (Holds journal) parts → (i : ℕ) → i ≤ length journal → LiesIn journal parts i
+all_lie_in journal texts [] turns last said is each i within = not_none texts [] turns said refl
+all_lie_in journal texts (p ∷ parts) turns last said is each i within =
     lies_in journal (p ∷ parts) i (find (Holds journal) p parts 0 start (length journal) last is each i (omega arith) within)
 
-history_of : (lines answered unanswered : List (List ℕ)) (journal : List Entry) (parts : List Part) (last : StateView) → lines ≡ answered ++ unanswered → AreSaid answered parts
-    → Follow 0 start parts (length journal) last → AllRunButLast parts → AllByRecursion (Holds journal) parts → History lines journal
-history_of lines answered unanswered journal parts last cut said is halted each = record {
+history_of : (s : Status) (turns : List Turn) (lines answered unanswered : List (List ℕ)) (journal : List Entry) (parts : List Part) (last : StateView)
+    → lines ≡ answered ++ unanswered → (ends_with_input s ≡ true → unanswered ≡ []) → AreSaid answered parts turns
+    → Follow 0 start parts (length journal) last → AllRunButLast parts → AllByRecursion (Holds journal) parts → History s turns lines journal
+history_of s turns lines answered unanswered journal parts last cut whole said is halted each = record {
   parts = parts;
   last = last;
   answered = answered;
   unanswered = unanswered;
   cut = cut;
+  all_answered = whole;
   said = said;
   follow = is;
   halted = halted;
   each = each;
-  moments = all_lie_in journal answered parts last said is each;
+  moments = all_lie_in journal answered parts turns last said is each;
 }
 
--- the parts of the journal of a session that stands here behind these lines, whatever comes
-record Told (texts : List (List ℕ)) (e : Standing) : Type 0 where
+-- the parts of the journal of a session that stands here after these lines and with these turns, whatever comes
+record Told (texts : List (List ℕ)) (turns : List Turn) (e : Standing) : Type 0 where
   parts : List Part
-  said : AreSaid texts parts
+  said : AreSaid texts parts turns
   follow : Follow 0 start parts (length e.kernel.journal) e.controller.state
   each : (rest : List Entry) → AllByRecursion (Holds (e.kernel.journal ++ rest)) parts
   halted : AllRunButLast parts
   runs : e.controller.halted ≡ None → AllByRecursion Runs parts
 
 -- a line that asks nothing
-stays : (texts : List (List ℕ)) (m e : Standing) (text : List ℕ) (l : Line) → Told texts m → Spells text l → ((command : Command) → l ≢ line.Control command) → e ≡ m → Told (texts ++ text ∷ []) e
-stays texts m e text l told spells other same = subst (Told (texts ++ text ∷ [])) (sym same) record {
+stays : (texts : List (List ℕ)) (turns more : List Turn) (m e : Standing) (text : List ℕ) (l : Line) → Told texts turns m → Spells text l
+    → ((command : Command) → l ≢ line.Control command) → e ≡ m → Told (texts ++ text ∷ []) (turns ++ more) e
+stays texts turns more m e text l told spells other same = subst (Told (texts ++ text ∷ []) (turns ++ more)) (sym same) record {
   parts = told.parts;
-  said = another texts told.parts told.said text l spells other;
+  said = another texts told.parts turns told.said text l more spells other;
   follow = told.follow;
   each = told.each;
   halted = told.halted;
   runs = told.runs;
 }
 
-module _ (texts : List (List ℕ)) (m e : Standing) (text : List ℕ) (command : Command) (n : ℕ) (turns : List Turn) (out : List ℕ)
-    (told : Told texts m) (running : m.controller.halted ≡ None) (spells : Spells text (line.Control command)) (is : IsCommanded command n m e turns out)
-    (sends : SendsByPolicy e.controller e.kernel) where
+module _ (texts : List (List ℕ)) (turns : List Turn) (m e : Standing) (text : List ℕ) (command : Command) (more : List Turn) (out : List ℕ)
+    (told : Told texts turns m) (running : m.controller.halted ≡ None) (spells : Spells text (line.Control command))
+    (is : IsCommanded command (length texts + 1) m e more out) (sends : SendsByPolicy e.controller e.kernel) where
   abbrev part : Part
-  part = record { command = Some command; answer = is.a; old = m.controller.state; from = length m.kernel.journal; count = length is.moments.entries }
-
-  answers_something : is.a ≢ answer.NoMemory
-  answers_something e = says_more is.what (subst (λ (a : Answer). Says is.what a) e is.says)
+  part = record { command = Some command; answer = Ok is.a; old = m.controller.state; from = length m.kernel.journal; count = length is.moments.entries }
 
   exactly : (c : Command) → Some command ≡ Some c
-      → (is.a ≡ answer.Done) ↔ ((code_of m.controller.state m.kernel.journal c ≡ None) × RefusedNone m.kernel e.kernel × BrokeNone m.kernel e.kernel)
+      → (made is.a ≡ Ok answer.Done) ↔ ((code_of m.controller.state m.kernel.journal c ≡ None) × RefusedNone m.kernel e.kernel × BrokeNone m.kernel e.kernel)
   exactly c same =
-      subst (λ (d : Command). (is.a ≡ answer.Done) ↔ ((code_of m.controller.state m.kernel.journal d ≡ None) × RefusedNone m.kernel e.kernel × BrokeNone m.kernel e.kernel)) (of_some same) (
-        (λ done. let h = (is.caused.done answers_something).0 done in (h.0.accepted, h.1, h.2)),
-        (λ h. (is.caused.done answers_something).1 (record { runs = running; accepted = h.0 }, h.1, h.2)),
+      subst (λ (d : Command). (made is.a ≡ Ok answer.Done) ↔ ((code_of m.controller.state m.kernel.journal d ≡ None) × RefusedNone m.kernel e.kernel × BrokeNone m.kernel e.kernel)) (of_some same) (
+        (λ done. let h = (is.caused.done refl).0 done in (h.0.accepted, h.1, h.2)),
+        (λ h. (is.caused.done refl).1 (record { runs = running; accepted = h.0 }, h.1, h.2)),
       )
     where
       of_some : Some command ≡ Some c → command ≡ c
@@ -295,7 +282,7 @@ module _ (texts : List (List ℕ)) (m e : Standing) (text : List ℕ) (command :
 
   here : (rest : List Entry) → Holds (e.kernel.journal ++ rest) part
   here rest =
-      holds m.kernel e.kernel is.moments.entries rest is.moments.grew (Some command) is.a m.controller.state
+      holds m.kernel e.kernel is.moments.entries rest is.moments.grew (Some command) (Ok is.a) m.controller.state
       is.moments.moments
       (λ none packet. is.once none is.moments.entries is.moments.grew packet)
       (λ packet was barred user i within. is.locked is.moments.entries is.moments.grew packet was barred user i within)
@@ -311,31 +298,41 @@ module _ (texts : List (List ℕ)) (m e : Standing) (text : List ℕ) (command :
   runs_on : e.controller.halted ≡ None → Runs part
   runs_on on request halts = false≢true (subst (λ (h : Option ℕ). IsSome h) on (is.caused.halts.1 (is.caused.halted.0 (request, halts))))
 
-  commanded : Told (texts ++ text ∷ []) e
+  end_is : length e.kernel.journal ≡ length m.kernel.journal + length is.moments.entries
+  end_is = ends_at m.kernel e.kernel is.moments.entries [] is.moments.grew
+
+  turn_is : turns ++ turn_of_part (length texts + 1) is.a part ∷ [] ≡ turns ++ more
+  turn_is =
+      ap (λ (end : ℕ). turns ++ record { line = length texts + 1; said = said.Answered is.a; journal_end = end } ∷ []) (sym end_is)
+      ∙ ap (λ (ts : List Turn). turns ++ ts) (sym is.turns_are)
+
+  commanded : Told (texts ++ text ∷ []) (turns ++ more) e
   commanded = record {
     parts = told.parts ++ part ∷ [];
-    said = a_command texts told.parts told.said text command part spells refl;
+    said = subst (λ (ts : List Turn). AreSaid (texts ++ text ∷ []) (told.parts ++ part ∷ []) ts) turn_is
+        (a_command texts told.parts turns told.said text command part is.a spells refl refl);
     follow = follow_on told.parts 0 start (length m.kernel.journal) m.controller.state part (length e.kernel.journal) e.controller.state told.follow refl refl
-        (ends_at m.kernel e.kernel is.moments.entries [] is.moments.grew) (state_behind is.a command m.controller e.controller m.kernel e.kernel is.answered);
+        end_is (state_behind is.a command m.controller e.controller m.kernel e.kernel is.answered);
     each = λ rest. all-append (Holds (e.kernel.journal ++ rest)) told.parts (part ∷ []) (before rest) (here rest, tt);
     halted = last_may_halt told.parts part (told.runs running);
     runs = λ on. all-append Runs told.parts (part ∷ []) (told.runs running) (runs_on on, tt);
   }
 
 -- a line more
-told_line : (texts : List (List ℕ)) (m e : Standing) (text : List ℕ) (n : ℕ) (turns : List Turn) (out : List ℕ) → Told texts m → m.controller.halted ≡ None
-    → Goes text n m e turns out → Told (texts ++ text ∷ []) e
-told_line texts m e text n turns out told running goes = by goes.line goes.spelled goes.answered
+told_line : (texts : List (List ℕ)) (turns : List Turn) (m e : Standing) (text : List ℕ) (more : List Turn) (out : List ℕ) → Told texts turns m
+    → m.controller.halted ≡ None → Goes text (length texts + 1) m e more out → Told (texts ++ text ∷ []) (turns ++ more) e
+told_line texts turns m e text more out told running goes = by goes.line goes.spelled goes.answered
   where
-    by : (l : Line) → Spells text l → IsAnsweredLine l n m e turns out → Told (texts ++ text ∷ []) e
-    by line.Blank spells is = stays texts m e text line.Blank told spells (λ c e. absurd cc) is.0
-    by (line.Control command) spells is = commanded texts m e text command n turns out told running spells is goes.sends
-    by (line.Trace (trace.Made uid mark dest link)) spells is = stays texts m e text (line.Trace (trace.Made uid mark dest link)) told spells (λ c e. absurd cc) (packet_stays uid mark dest link n m e turns out is)
-    by (line.Show question) spells is = stays texts m e text (line.Show question) told spells (λ c e. absurd cc) (show_stays question n m e turns out is)
+    by : (l : Line) → Spells text l → IsAnsweredLine l (length texts + 1) m e more out → Told (texts ++ text ∷ []) (turns ++ more) e
+    by line.Blank spells is = stays texts turns more m e text line.Blank told spells (λ c e. absurd cc) is.0
+    by (line.Control command) spells is = commanded texts turns m e text command more out told running spells is goes.sends
+    by (line.Trace (trace.Made uid mark dest link)) spells is =
+        stays texts turns more m e text (line.Trace (trace.Made uid mark dest link)) told spells (λ c e. absurd cc) (packet_stays uid mark dest link (length texts + 1) m e more out is)
+    by (line.Show question) spells is = stays texts turns more m e text (line.Show question) told spells (λ c e. absurd cc) (show_stays question (length texts + 1) m e more out is)
 
-ran_told : {begun : Standing} {texts : List (List ℕ)} {e : Standing} {turns : List Turn} {out : List ℕ} → Ran begun texts e turns out → Told [] begun → Told texts e
+ran_told : {begun : Standing} {texts : List (List ℕ)} {e : Standing} {turns : List Turn} {out : List ℕ} → Ran begun texts e turns out → Told [] [] begun → Told texts turns e
 ran_told no_line told = told
-ran_told (one_more texts m turns out ran runs text e more more_out goes) told = told_line texts m e text (length texts + 1) more more_out (ran_told ran told) runs goes
+ran_told (one_more texts m turns out ran runs text e more more_out goes) told = told_line texts turns m e text more more_out (ran_told ran told) runs goes
 
 -- no user is locked down at the start
 none_barred : (packet : Packet) → IsBarred start packet → ⊥
@@ -346,136 +343,120 @@ none_barred packet barred = never (is_made packet) (not (is_protected packet.mar
     never true false h = false≢true h
     never false b h = false≢true h
 
-left_same : (a : Answer) → left_by a start start ≡ start
-left_same answer.Done = refl
-left_same (answer.Refused c) = refl
-left_same (answer.KernelRefused q) = refl
-left_same (answer.Halted q) = refl
-left_same answer.NoMemory = refl
+left_same : (a : Result Answer AllocError) → left_by a start start ≡ start
+left_same (Ok answer.Done) = refl
+left_same (Ok (answer.Refused c)) = refl
+left_same (Ok (answer.KernelRefused q)) = refl
+left_same (Ok (answer.Halted q)) = refl
+left_same (Err e) = refl
 
-module _ (lines : List (List ℕ)) (before after : KernelView) (a : Answer) (keeps : KeepsPolicy before after start start) where
-  start_holds : (rest : List Entry) → ((request : ℕ) → a ≡ answer.KernelRefused request → state_of after ≡ state_of before)
+module _ (s : Status) (before after : KernelView) (a : Result Answer AllocError) (keeps : KeepsPolicy before after start start) where
+  start_holds : (rest : List Entry) → ((request : ℕ) → a ≡ Ok (answer.KernelRefused request) → state_of after ≡ state_of before)
       → Holds (after.journal ++ rest) (record { command = None; answer = a; old = start; from = length before.journal; count = length keeps.entries })
   start_holds rest same =
       holds before after keeps.entries rest keeps.grew None a start keeps.moments
-      (λ none packet. record { switch = 0; before = λ i l f. absurd (omega (arith, f)); behind = λ i l b. at_each (keeps.moments packet) i l })
+      (λ none packet. record { switch = 0; before = λ i l f. absurd (omega (arith, f)); behind = λ i l b. at_same (keeps.moments packet) i l })
       (λ packet was barred user i within. absurd (none_barred packet was))
-      (λ runs packet. ap (λ (k : KernelState). walk k packet) last ∙ at_each (keeps.moments packet) (length keeps.entries) (omega arith) ∙ ap (λ (s : StateView). policy s packet) (sym (left_same a)))
+      (λ runs packet. ap (λ (k : KernelState). walk k packet) last ∙ at_same (keeps.moments packet) (length keeps.entries) (omega arith) ∙ ap (λ (s : StateView). policy s packet) (sym (left_same a)))
       same (λ c e. absurd (none-some c e))
     where
       last : state_of after ≡ moment_from (state_of before) keeps.entries (length keeps.entries)
       last = ap state_of keeps.grew ∙ replay-append before.journal keeps.entries ∙ ap (replay_from (state_of before)) (sym (take_all (length keeps.entries) keeps.entries (omega arith)))
 
   -- a start that failed is all of the journal
-  start_alone : before.journal ≡ [] → ((request : ℕ) → a ≡ answer.KernelRefused request → state_of after ≡ state_of before) → History lines after.journal
+  start_alone : before.journal ≡ [] → ((request : ℕ) → a ≡ Ok (answer.KernelRefused request) → state_of after ≡ state_of before) → History s [] [] after.journal
   start_alone none same =
       let p : Part = record { command = None; answer = a; old = start; from = length before.journal; count = length keeps.entries } in
-      history_of lines [] lines after.journal (p ∷ []) start refl (the_start p refl)
+      history_of s [] [] [] [] after.journal (p ∷ []) start refl (λ _. refl) (the_start p refl)
       (ap length none, refl, (ends_at before after keeps.entries [] keeps.grew, sym (left_same a))) tt
       (subst (λ (j : List Entry). Holds j p) (append-nil after.journal) (start_holds [] same), tt)
 
-began_told : (before : KernelView) (begun : Standing) → HasBegun before begun → before.journal ≡ [] → Told [] begun
+began_told : (before : KernelView) (begun : Standing) → HasBegun before begun → before.journal ≡ [] → Told [] [] begun
 began_told before begun began none = record {
-  parts = record { command = None; answer = answer.Done; old = start; from = length before.journal; count = length began.moments.entries } ∷ [];
-  said = the_start (record { command = None; answer = answer.Done; old = start; from = length before.journal; count = length began.moments.entries }) refl;
+  parts = record { command = None; answer = Ok answer.Done; old = start; from = length before.journal; count = length began.moments.entries } ∷ [];
+  said = the_start (record { command = None; answer = Ok answer.Done; old = start; from = length before.journal; count = length began.moments.entries }) refl;
   follow = (ap length none, refl, (ends_at before begun.kernel began.moments.entries [] began.moments.grew, ap (λ (c : ControllerView). c.state) began.started.1));
-  each = λ rest. (start_holds [] before begun.kernel answer.Done began.moments rest (λ request e. absurd cc), tt);
+  each = λ rest. (start_holds status.Finished before begun.kernel (Ok answer.Done) began.moments rest (λ request e. absurd cc), tt);
   halted = tt;
   runs = λ _. ((λ request e. absurd cc), tt);
 }
 
--- the start's additions, undone at each of the six
-start_undone : (k : ℕ) (r : Request) → slice_get start_adds k ≡ Some r → replay_from kernel_start (undone start_adds k r) ≡ kernel_start
-start_undone zero r next = refl
-start_undone (suc zero) r next = refl
-start_undone (suc (suc zero)) r next = refl
-start_undone (suc (suc (suc zero))) r next = refl
-start_undone (suc (suc (suc (suc zero)))) r next = refl
-start_undone (suc (suc (suc (suc (suc zero))))) r next = refl
-start_undone (suc (suc (suc (suc (suc (suc k)))))) r next = absurd (none-some r next)
+-- the start failed, or was not made
+module _ (s : Status) (old new : KernelView) (none : old.journal ≡ []) where
+  failed : (text : List ℕ) (whole : End) → FailsToStart old new text whole → KeepsPolicy old new start start → History s [] [] new.journal
+  failed text whole (start_refused q started says is) keeps =
+      start_alone s old new (Ok (answer.KernelRefused q)) keeps none (λ request e. start_as_before (Err (fault.Refused q)) old new none started q refl)
+  failed text whole (start_halted q started says is) keeps = start_alone s old new (Ok (answer.Halted q)) keeps none (λ request e. absurd cc)
 
-start_refused : (q : ℕ) (before after : KernelView) → before.journal ≡ [] → IsStarted (Err (fault.Refused q)) before after → state_of after ≡ state_of before
-start_refused q before after none is =
-    ap state_of is.3 ∙ replay-append before.journal is.1 ∙ ap (replay_from (state_of before)) is.2.all
-    ∙ subst (λ (k : KernelState). replay_from k (undone start_adds is.0 is.2.refused) ≡ k) (sym (ap replay none)) (start_undone is.0 is.2.refused is.2.next)
-
-module _ (lines : List (List ℕ)) (old new : KernelView) (none : old.journal ≡ []) (means : (packet : Packet) → walk kernel_start packet ≡ policy start packet) where
-  failed : (text : List ℕ) → StartFails status.StartRefused old new text ⊎ StartFails status.Halted old new text → History lines new.journal
-  failed text (inl (q, started, keeps, says)) = start_alone lines old new (answer.KernelRefused q) keeps none (λ request e. start_refused q old new none started)
-  failed text (inr (q, started, keeps, says)) = start_alone lines old new (answer.Halted q) keeps none (λ request e. absurd cc)
-
-  unasked : new ≡ old → History lines new.journal
-  unasked same =
-      start_alone lines old new answer.NoMemory
+  unasked : ((packet : Packet) → walk kernel_start packet ≡ policy start packet) → new ≡ old → History s [] [] new.journal
+  unasked means same =
+      start_alone s old new (Err alloc_error)
       (nothing_asked old new start start (λ packet. subst (λ (k : KernelState). walk k packet ≡ policy start packet) (sym (ap replay none)) (means packet)) same)
       none (λ request e. absurd cc)
 
-  start_ends : (s : Status) (text : List ℕ) (taken : ℕ) → EndsStart s old new text taken → History lines new.journal
-  start_ends status.Finished text taken ends = absurd ends
-  start_ends status.BadWords text taken ends = absurd ends
-  start_ends status.BadLine text taken ends = absurd ends
-  start_ends status.ReadFault text taken ends = absurd ends
-  start_ends status.WriteFault text taken ends = failed text ends.0
-  start_ends status.Memory text taken (inl refused, short) = failed text (inl refused)
-  start_ends status.Memory text taken (inr (inl halted), short) = failed text (inr halted)
-  start_ends status.Memory text taken (inr (inr (same, nothing)), short) = unasked same
-  start_ends status.Halted text taken ends = failed text (inr ends.0)
-  start_ends status.StartRefused text taken ends = failed text (inl ends.0)
-  start_ends status.TooLong text taken ends = absurd ends
-
 -- how far the lines were answered
-record Reached (texts : List (List ℕ)) (text : List ℕ) (e : Standing) : Type 0 where
+record Reached (texts : List (List ℕ)) (text : List ℕ) (turns : List Turn) (e : Standing) : Type 0 where
   answered : List (List ℕ)
   unanswered : List (List ℕ)
   cut : texts ++ text ∷ [] ≡ answered ++ unanswered
-  told : Told answered e
+  told : Told answered turns e
 
-not_here : (texts : List (List ℕ)) (text : List ℕ) (a e : Standing) → Told texts a → e ≡ a → Reached texts text e
-not_here texts text a e told same = record { answered = texts; unanswered = text ∷ []; cut = refl; told = subst (Told texts) (sym same) told }
-
-to_here : (texts : List (List ℕ)) (text : List ℕ) (n : ℕ) (a e : Standing) (more : List Turn) (out : List ℕ) → Told texts a → a.controller.halted ≡ None → Goes text n a e more out → Reached texts text e
-to_here texts text n a e more out told runs goes = record {
+line_told : (texts : List (List ℕ)) (turns : List Turn) (text : List ℕ) (a e : Standing) (more : List Turn) (out : List ℕ) (whole : End) → Told texts turns a
+    → a.controller.halted ≡ None → IsSaid text (length texts + 1) a e more out whole → Reached texts text (turns ++ more) e
+line_told texts turns text a e more out whole told runs (says_bad bad is) = record {
+  answered = texts;
+  unanswered = text ∷ [];
+  cut = refl;
+  told = subst (λ (ts : List Turn). Told texts ts e) (sym (append-nil turns) ∙ ap (λ (ts : List Turn). turns ++ ts) (sym bad.no_turn))
+      (subst (Told texts turns) (sym bad.stays) told);
+}
+line_told texts turns text a e more out whole told runs (says_answer goes is) = record {
   answered = texts ++ text ∷ [];
   unanswered = [];
   cut = sym (append-nil (texts ++ text ∷ []));
-  told = told_line texts a e text n more out told runs goes;
+  told = told_line texts turns a e text more out told runs goes;
 }
 
-line_told : (s : Status) (texts : List (List ℕ)) (text : List ℕ) (n : ℕ) (a e : Standing) (more : List Turn) (out : List ℕ) (taken : ℕ) → Told texts a → a.controller.halted ≡ None
-    → EndsLine s text n a e more out taken → Reached texts text e
-line_told status.Finished texts text n a e more out taken told runs ends = absurd ends
-line_told status.BadWords texts text n a e more out taken told runs ends = absurd ends
-line_told status.BadLine texts text n a e more out taken told runs ends = not_here texts text a e told ends.0.stays
-line_told status.ReadFault texts text n a e more out taken told runs ends = absurd ends
-line_told status.WriteFault texts text n a e more out taken told runs (inl bad, short) = not_here texts text a e told bad.stays
-line_told status.WriteFault texts text n a e more out taken told runs (inr goes, short) = to_here texts text n a e more out told runs goes
-line_told status.Memory texts text n a e more out taken told runs (inl bad, short) = not_here texts text a e told bad.stays
-line_told status.Memory texts text n a e more out taken told runs (inr (inl goes), short) = to_here texts text n a e more out told runs goes
-line_told status.Memory texts text n a e more out taken told runs (inr (inr untouched), short) = not_here texts text a e told untouched.0
-line_told status.Halted texts text n a e more out taken told runs ends = to_here texts text n a e more out told runs ends.0
-line_told status.StartRefused texts text n a e more out taken told runs ends = absurd ends
-line_told status.TooLong texts text n a e more out taken told runs ends = absurd ends
-
-all_told : (texts more lines : List (List ℕ)) (e : Standing) → lines ≡ texts ++ more → Told texts e → History lines e.kernel.journal
-all_told texts more lines e is told =
-    history_of lines texts more e.kernel.journal told.parts e.controller.state is told.said told.follow told.halted
+all_told : (s : Status) (turns : List Turn) (texts more lines : List (List ℕ)) (e : Standing) → lines ≡ texts ++ more → (ends_with_input s ≡ true → more ≡ [])
+    → Told texts turns e → History s turns lines e.kernel.journal
+all_told s turns texts more lines e is whole told =
+    history_of s turns lines texts more e.kernel.journal told.parts e.controller.state is whole told.said told.follow told.halted
     (subst (λ (j : List Entry). AllByRecursion (Holds j) told.parts) (append-nil e.kernel.journal) (told.each []))
 
 pub session_history : (old new : World) (ended : EndedView) → ((packet : Packet) → walk kernel_start packet ≡ policy start packet) → old.kernel.journal ≡ [] → HasHistory old new ended
 session_history old new ended means none s = by s.ending
   where
-    run_told : (lines : List (List ℕ)) (stands : Standing) (turns : List Turn) (out : List ℕ) → HasRun old lines stands turns out → Told lines stands
+    run_told : (lines : List (List ℕ)) (stands : Standing) (turns : List Turn) (out : List ℕ) → HasRun old lines stands turns out → Told lines turns stands
     run_told lines stands turns out run = ran_told run.ran (began_told old.kernel run.begun run.began none)
 
-    same_kernel : (k : KernelView) → new.kernel ≡ k → History s.lines k.journal → History s.lines new.kernel.journal
-    same_kernel k is history = subst (λ (v : KernelView). History s.lines v.journal) (sym is) history
+    same_kernel : (k : KernelView) → new.kernel ≡ k → History (status_of ended.result) ended.turns s.lines k.journal → History (status_of ended.result) ended.turns s.lines new.kernel.journal
+    same_kernel k is history = subst (λ (v : KernelView). History (status_of ended.result) ended.turns s.lines v.journal) (sym is) history
 
-    by : AtStart old new ended s.given s.lines s.out ⊎ (AtLine old new ended s.lines s.out ⊎ AtInput old new ended s.given s.lines s.out) → History s.lines new.kernel.journal
-    by (inl at) = start_ends s.lines old.kernel new.kernel none means ended.status at.text at.taken at.ends
-    by (inr (inl at)) =
-        let r : Reached at.before at.text at.stands =
-        line_told ended.status at.before at.text (length at.before + 1) at.stood at.stands at.more at.last at.taken (run_told at.before at.stood at.turns at.said at.run) at.running at.ends in
+    nothing_met : ended.turns ≡ [] → s.lines ≡ [] → History (status_of ended.result) [] [] new.kernel.journal → History (status_of ended.result) ended.turns s.lines new.kernel.journal
+    nothing_met no_turn unmet history =
+        subst (λ (ts : List Turn). History (status_of ended.result) ts s.lines new.kernel.journal) (sym no_turn)
+        (subst (λ (ls : List (List ℕ)). History (status_of ended.result) [] ls new.kernel.journal) (sym unmet) history)
+
+    not_ended : (e : End) {A : Type 0} → ends_with_input (status_of e) ≡ false → ends_with_input (status_of e) ≡ true → A
+    not_ended e not_so so = absurd (false≢true (sym not_so ∙ so))
+
+    by : HasEnded old new ended s.given s.lines s.out → History (status_of ended.result) ended.turns s.lines new.kernel.journal
+    by (not_begun at) = nothing_met at.no_turn at.nothing_met (unasked (status_of ended.result) old.kernel new.kernel none means at.kernel_is)
+    by (at_start at) = nothing_met at.no_turn at.nothing_met (failed (status_of ended.result) old.kernel new.kernel none at.text at.whole at.failed at.moments)
+    by (at_line at) =
+        let r : Reached at.before at.text (at.turns ++ at.more) at.stands =
+        line_told at.before at.turns at.text at.stood at.stands at.more at.last at.whole (run_told at.before at.stood at.turns at.told_before at.run) at.run.running at.said in
         same_kernel at.stands.kernel at.kernel_is
-        (all_told r.answered (r.unanswered ++ at.behind) s.lines at.stands (at.cut ∙ sym (append_assoc at.before (at.text ∷ []) at.behind)
-        ∙ ap (λ (l : List (List ℕ)). l ++ at.behind) r.cut ∙ append_assoc r.answered r.unanswered at.behind) r.told)
-    by (inr (inr at)) = same_kernel at.stands.kernel at.kernel_is (all_told s.lines [] s.lines at.stands (sym (append-nil s.lines)) (run_told s.lines at.stands ended.turns s.out at.run))
+        (all_told (status_of ended.result) ended.turns r.answered (r.unanswered ++ at.behind) s.lines at.stands (at.cut ∙ sym (append_assoc at.before (at.text ∷ []) at.behind)
+        ∙ ap (λ (l : List (List ℕ)). l ++ at.behind) r.cut ∙ append_assoc r.answered r.unanswered at.behind)
+        (not_ended ended.result (not_with_input at.text (length at.before + 1) at.stood at.stands at.more at.last at.whole ended.result at.taken (length at.last)
+        old.sink.faults new.sink.faults at.said at.told at.stops))
+        (subst (λ (ts : List Turn). Told r.answered ts at.stands) (sym at.turns_are) r.told))
+    by (before_line at) =
+        same_kernel at.stands.kernel at.kernel_is
+        (all_told (status_of ended.result) ended.turns at.before at.behind s.lines at.stands at.cut
+        (not_ended ended.result (ap (λ (e : End). ends_with_input (status_of e)) at.no_memory))
+        (run_told at.before at.stands ended.turns s.out at.run))
+    by (at_input at) =
+        same_kernel at.stands.kernel at.kernel_is
+        (all_told (status_of ended.result) ended.turns s.lines [] s.lines at.stands (sym (append-nil s.lines)) (λ _. refl) (run_told s.lines at.stands ended.turns s.out at.run))

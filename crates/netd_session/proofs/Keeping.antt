@@ -1,5 +1,5 @@
 -- What a session keeps of a kernel's journal: its limit, and that each request in it is well formed.
-use Rattle.std.proofs.Common.{◌≡◌, ◌⊎◌, ℕ, ◌+◌, ◌≤◌, List, [], length, Option, None, Some, Ok, Err, inl, inr, sym, ap, subst, arith}
+use Rattle.std.proofs.Common.{◌≡◌, ℕ, ◌+◌, ◌≤◌, List, [], length, Result, Ok, Err, sym, ap, subst, arith}
 use Rattle.kernel_model.specs.Form.{AreWellFormed}
 use Rattle.kernel_model.specs.View.{KernelView}
 use Rattle.net_control.proofs.Bounding.{start_few}
@@ -9,40 +9,20 @@ use Rattle.net_control.specs.Started.{IsStarted}
 use Rattle.net_control.specs.View.{ControllerView}
 use Rattle.net_control.specs.declared.controller.StartFault.{StartFault}
 use Rattle.net_control.specs.declared.controller.StartFault.TheVariants as fault
-use Rattle.policy_state.specs.View.{link_named}
-use Rattle.prefixes.specs.declared.addr.Addr.{Addr}
 use Rattle.script_reader.specs.declared.line.Line.{Line}
 use Rattle.script_reader.specs.declared.line.Line.TheVariants as line
-use Rattle.script_reader.specs.declared.line.ShowLine.{ShowLine}
-use Rattle.script_reader.specs.declared.line.ShowLine.TheVariants as show
 use Rattle.script_reader.specs.declared.line.TraceLine.TheVariants as trace
-use Rattle.std.specs.Prelude.{Result}
-use Rattle.uid_ranges.specs.declared.range.Uid.{Uid}
+use Rattle.netd_session.proofs.Growing.{packet_stays, show_stays}
+use Rattle.netd_session.specs.Answers.{IsAnsweredLine}
 use Rattle.netd_session.specs.EndedView.{EndedView}
-use Rattle.netd_session.specs.Ending.{World, AtInput, AtLine, AtStart, EndsStart, HasRun, IsSession, StartFails}
-use Rattle.netd_session.specs.Talks.{EndsLine}
-use Rattle.netd_session.specs.Turns.{Standing, IsAnsweredLine, IsBoundAndTraced, IsPacketLine, Ran, no_line, one_more}
+use Rattle.netd_session.specs.Ends.{FailsToStart, HasEnded, HasRun, IsSession, at_input, at_line, at_start, before_line, not_begun, start_halted, start_refused}
+use Rattle.netd_session.specs.Lines.{IsSaid, Ran, no_line, one_more, says_answer, says_bad}
+use Rattle.netd_session.specs.Stops.{End}
+use Rattle.netd_session.specs.Turns.{Standing}
+use Rattle.netd_session.specs.World.{World}
 use Rattle.netd_session.specs.declared.turn.Turn.{Turn}
-use Rattle.netd_session.specs.declared.status.Status.{Status}
-use Rattle.netd_session.specs.declared.status.Status.TheVariants as status
 
--- a packet's line changes nothing
-pub packet_stays : (uid : Uid) (mark : ℕ) (dest : Addr) (link : Option (List ℕ)) (n : ℕ) (s e : Standing) (turns : List Turn) (out : List ℕ)
-    → IsPacketLine uid mark dest link n s e turns out → e ≡ s
-packet_stays uid mark dest None n s e turns out (packet, made, traced) = traced.0
-packet_stays uid mark dest (Some name) n s e turns out is = by (link_named s.controller.state name) is
-  where
-    by : (o : Option ℕ) → IsBoundAndTraced uid mark dest o n s e turns out → e ≡ s
-    by (Some link) (packet, made, traced) = traced.0
-    by None told = told.0
-
--- a report changes nothing
-pub show_stays : (question : ShowLine) (n : ℕ) (s e : Standing) (turns : List Turn) (out : List ℕ) → IsAnsweredLine (line.Show question) n s e turns out → e ≡ s
-show_stays (show.Rules family) n s e turns out is = is.0
-show_stays (show.Table number) n s e turns out is = is.0
-show_stays show.Networks n s e turns out is = is.0
-
--- what holds of the journal behind each line of a session
+-- what holds of the journal after each line of a session
 pub record IsInOrder (k : KernelView) : Type 0 where
   pub few : length k.journal ≤ journal_limit
   pub formed : AreWellFormed k.journal
@@ -59,6 +39,11 @@ answered (line.Control command) n s e turns out is = λ order. record { few = is
 answered (line.Trace (trace.Made uid mark dest link)) n s e turns out is = stays s e (packet_stays uid mark dest link n s e turns out is)
 answered (line.Show question) n s e turns out is = stays s e (show_stays question n s e turns out is)
 
+said_order : (text : List ℕ) (n : ℕ) (s e : Standing) (turns : List Turn) (out : List ℕ) (whole : End) → IsSaid text n s e turns out whole
+    → IsInOrder s.kernel → IsInOrder e.kernel
+said_order text n s e turns out whole (says_bad bad is) = stays s e bad.stays
+said_order text n s e turns out whole (says_answer goes is) = answered goes.line n s e turns out goes.answered
+
 ran_on : {begun : Standing} {texts : List (List ℕ)} {e : Standing} {turns : List Turn} {out : List ℕ} → Ran begun texts e turns out
     → IsInOrder begun.kernel → IsInOrder e.kernel
 ran_on no_line order = order
@@ -72,49 +57,22 @@ run_on : (old : World) (lines : List (List ℕ)) (stands : Standing) (turns : Li
     → old.kernel.journal ≡ [] → IsInOrder stands.kernel
 run_on old lines stands turns out run none = ran_on run.ran (began (Ok run.begun.controller) old.kernel run.begun.kernel run.began.started none)
 
-line_ends : (s : Status) (text : List ℕ) (n : ℕ) (a e : Standing) (more : List Turn) (out : List ℕ) (taken : ℕ) → EndsLine s text n a e more out taken
-    → IsInOrder a.kernel → IsInOrder e.kernel
-line_ends status.Finished text n a e more out taken ends = absurd ends
-line_ends status.BadWords text n a e more out taken ends = absurd ends
-line_ends status.BadLine text n a e more out taken ends = stays a e ends.0.stays
-line_ends status.ReadFault text n a e more out taken ends = absurd ends
-line_ends status.WriteFault text n a e more out taken (inl bad, short) = stays a e bad.stays
-line_ends status.WriteFault text n a e more out taken (inr goes, short) = answered goes.line n a e more out goes.answered
-line_ends status.Memory text n a e more out taken (inl bad, short) = stays a e bad.stays
-line_ends status.Memory text n a e more out taken (inr (inl goes), short) = answered goes.line n a e more out goes.answered
-line_ends status.Memory text n a e more out taken (inr (inr untouched), short) = stays a e untouched.0
-line_ends status.Halted text n a e more out taken ends = answered ends.0.line n a e more out ends.0.answered
-line_ends status.StartRefused text n a e more out taken ends = absurd ends
-line_ends status.TooLong text n a e more out taken ends = absurd ends
+start_fails : (old new : KernelView) (text : List ℕ) (whole : End) → FailsToStart old new text whole → old.journal ≡ [] → IsInOrder new
+start_fails old new text whole (start_refused request started says is) none = began (Err (fault.Refused request)) old new started none
+start_fails old new text whole (start_halted request started says is) none = began (Err (fault.Halted request)) old new started none
 
-start_fails : (old new : KernelView) (text : List ℕ) → old.journal ≡ [] → StartFails status.StartRefused old new text ⊎ StartFails status.Halted old new text → IsInOrder new
-start_fails old new text none (inl (request, started, moments, says)) = began (Err (fault.Refused request)) old new started none
-start_fails old new text none (inr (request, started, moments, says)) = began (Err (fault.Halted request)) old new started none
-
-nothing_asked : (k : KernelView) → k.journal ≡ [] → IsInOrder k
+pub nothing_asked : (k : KernelView) → k.journal ≡ [] → IsInOrder k
 nothing_asked k none = record { few = omega (arith, ap length none); formed = subst AreWellFormed (sym none) tt }
 
-start_ends : (s : Status) (old new : KernelView) (text : List ℕ) (taken : ℕ) → EndsStart s old new text taken → old.journal ≡ [] → IsInOrder new
-start_ends status.Finished old new text taken ends none = absurd ends
-start_ends status.BadWords old new text taken ends none = absurd ends
-start_ends status.BadLine old new text taken ends none = absurd ends
-start_ends status.ReadFault old new text taken ends none = absurd ends
-start_ends status.WriteFault old new text taken ends none = start_fails old new text none ends.0
-start_ends status.Memory old new text taken (inl refused, short) none = start_fails old new text none (inl refused)
-start_ends status.Memory old new text taken (inr (inl halted), short) none = start_fails old new text none (inr halted)
-start_ends status.Memory old new text taken (inr (inr (same, nothing)), short) none = same_order old new same (nothing_asked old none)
-start_ends status.Halted old new text taken ends none = start_fails old new text none (inr ends.0)
-start_ends status.StartRefused old new text taken ends none = start_fails old new text none (inl ends.0)
-start_ends status.TooLong old new text taken ends none = absurd ends
-
 module _ (old new : World) (ended : EndedView) where
-  in_order : (given : List ℕ) (lines : List (List ℕ)) (out : List ℕ) → AtStart old new ended given lines out ⊎ (AtLine old new ended lines out ⊎ AtInput old new ended given lines out)
-      → old.kernel.journal ≡ [] → IsInOrder new.kernel
-  in_order given lines out (inl at) none = start_ends ended.status old.kernel new.kernel at.text at.taken at.ends none
-  in_order given lines out (inr (inl at)) none =
+  in_order : (given : List ℕ) (lines : List (List ℕ)) (out : List ℕ) → HasEnded old new ended given lines out → old.kernel.journal ≡ [] → IsInOrder new.kernel
+  in_order given lines out (not_begun at) none = same_order old.kernel new.kernel at.kernel_is (nothing_asked old.kernel none)
+  in_order given lines out (at_start at) none = start_fails old.kernel new.kernel at.text at.whole at.failed none
+  in_order given lines out (at_line at) none =
       same_order at.stands.kernel new.kernel at.kernel_is
-      (line_ends ended.status at.text (length at.before + 1) at.stood at.stands at.more at.last at.taken at.ends (run_on old at.before at.stood at.turns at.said at.run none))
-  in_order given lines out (inr (inr at)) none = same_order at.stands.kernel new.kernel at.kernel_is (run_on old lines at.stands ended.turns out at.run none)
+      (said_order at.text (length at.before + 1) at.stood at.stands at.more at.last at.whole at.said (run_on old at.before at.stood at.turns at.told_before at.run none))
+  in_order given lines out (before_line at) none = same_order at.stands.kernel new.kernel at.kernel_is (run_on old at.before at.stands ended.turns out at.run none)
+  in_order given lines out (at_input at) none = same_order at.stands.kernel new.kernel at.kernel_is (run_on old lines at.stands ended.turns out at.run none)
 
   -- whatever the status
   pub session_in_order : IsSession old new ended → old.kernel.journal ≡ [] → IsInOrder new.kernel

@@ -1,7 +1,8 @@
-pub mod Ends
+pub mod Tellings
+pub mod Growing
+pub mod Keeping
 pub mod Taking
 pub mod Starting
-pub mod Keeping
+pub mod Ending
 pub mod Causing
 pub mod Histories
-pub mod Listing

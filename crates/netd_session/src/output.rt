@@ -1,21 +1,20 @@
 ghost use Rattle.std.specs.Prelude.{◌≡◌, ◌<◌, ◌≤◌, length};
 ghost use Rattle.net_io.specs.Streams.{CanCount};
-ghost use Rattle.netd_session.specs.Offers.{Offers};
+ghost use Rattle.netd_session.specs.Stops.{goes_on};
+ghost use Rattle.netd_session.specs.Telling.{Tells};
 
-use net_io::{Sink, WriteFault};
+use crate::end::Stop;
+use net_io::Sink;
 
 /// Offers the piece, and what isn't taken again, until all of it is taken.
-pub fn offer<W: Sink>(sink: &mut W, piece: &[u8]) -> Result<(), WriteFault>
+pub fn offer<W: Sink>(sink: &mut W, piece: &[u8]) -> Result<(), Stop>
     requires { CanCount (W.seen sink.old).faults }
-    ensures { Offers (W.seen sink.old)
-        (W.seen sink.new) piece.now result }
+    ensures { Tells piece.now goes_on result (W.seen sink.old) (W.seen sink.new) }
 {
     let mut at = 0;
     while at < piece.len() {
-        match sink.write(&piece[at..]) {
-            Ok(count) => at += count,
-            Err(fault) => return Err(fault),
-        }
+        let count = sink.write(&piece[at..])?;
+        at += count;
     }
     Ok(())
 }

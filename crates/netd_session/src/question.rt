@@ -10,12 +10,13 @@ ghost use Rattle.report_text.specs.NetworkTexts.{networks_text};
 ghost use Rattle.report_text.specs.RouteTexts.{routes_text};
 ghost use Rattle.report_text.specs.RuleTexts.{rules_text};
 ghost use Rattle.turn_text.specs.Texts.{numbered, refused_text};
-ghost use Rattle.netd_session.specs.Talks.{Answers, standing};
-ghost use Rattle.netd_session.specs.Turns.{turn_of};
-ghost use Rattle.netd_session.specs.Went.{went_text};
+ghost use Rattle.turn_text.specs.declared.answer.Answer.TheVariants as answer;
+ghost use Rattle.netd_session.specs.Answers.{went_text};
+ghost use Rattle.netd_session.specs.Lines.{Answers};
+ghost use Rattle.netd_session.specs.Turns.{standing, turn_of};
 
-use crate::talk::Talk;
-use crate::telling::{tell_networks, tell_packet, tell_refusal, tell_rules, tell_table};
+use crate::answer::{tell_networks, tell_packet, tell_refusal, tell_rules, tell_table};
+use crate::line::Talk;
 use crate::turn::{Said, Turn};
 use kernel_model::Kernel;
 use net_names::{Code, Name};
@@ -23,13 +24,16 @@ use prefixes::{Addr, Family};
 use rule_match::Packet;
 use script_reader::ShowLine;
 use std::alloc::AllocError;
+use turn_text::Answer;
 use uid_ranges::Uid;
 
 // Questions change nothing: each has one turn and one text.
 impl Talk {
-    // Puts a turn behind which nothing has changed last.
+    // Puts a turn last after which nothing has changed.
     fn note<K: Kernel>(&mut self, number: u32, said: Said, kernel: &K) -> Result<(), AllocError>
-        ensures ok { OnOk result (self.new.turns.items ≡ self.old.turns.items ++ turn_of number said (standing self.old.controller (K.seen kernel.now)) ∷ []) }
+        ensures ok { OnOk result
+            (self.new.turns.items ≡ self.old.turns.items
+            ++ turn_of number said (standing self.old.controller (K.seen kernel.now)) ∷ []) }
         ensures err { OnErr result (self.new.turns.items ≡ self.old.turns.items) }
         ensures controller { self.new.controller ≡ self.old.controller }
         ensures answer { self.new.answer.items ≡ self.old.answer.items }
@@ -51,8 +55,17 @@ impl Talk {
         requires kept { IsKept self.old.controller (K.seen kernel.now) }
         requires runs { self.old.controller.halted ≡ None }
         requires empty { self.old.answer.items ≡ [] }
-        ensures ok { OnOk result (self.new.turns.items ≡ self.old.turns.items ++ turn_of number (Said.Went packet.now.mark (policy self.old.controller.state packet.now)) (standing self.old.controller (K.seen kernel.now)) ∷ []) }
-        ensures text { OnOk result (self.new.answer.items ≡ numbered number (went_text self.old.controller.state packet.now.mark (policy self.old.controller.state packet.now) (trail_of (state_of (K.seen kernel.now)) packet.now))) }
+        ensures ok { OnOk result
+            (self.new.turns.items ≡ self.old.turns.items
+            ++ turn_of number
+            (Said.Went packet.now.mark (policy self.old.controller.state packet.now))
+            (standing self.old.controller (K.seen kernel.now)) ∷ []) }
+        ensures text { OnOk result
+            (self.new.answer.items
+            ≡ numbered number
+            (went_text self.old.controller.state packet.now.mark
+            (policy self.old.controller.state packet.now)
+            (trail_of (state_of (K.seen kernel.now)) packet.now))) }
         ensures err { OnErr result (self.new.turns.items ≡ self.old.turns.items) }
         ensures controller { self.new.controller ≡ self.old.controller }
     {
@@ -69,14 +82,18 @@ impl Talk {
 
     fn answer_unknown_link<K: Kernel>(&mut self, number: u32, kernel: &K) -> Result<(), AllocError>
         requires empty { self.old.answer.items ≡ [] }
-        ensures ok { OnOk result (self.new.turns.items ≡ self.old.turns.items ++ turn_of number (Said.Refused Code.NoDevice) (standing self.old.controller (K.seen kernel.now)) ∷ []) }
-        ensures text { OnOk result (self.new.answer.items ≡ numbered number (refused_text Code.NoDevice)) }
+        ensures ok { OnOk result
+            (self.new.turns.items ≡ self.old.turns.items
+            ++ turn_of number (Said.Answered (answer.Refused Code.NoDevice))
+            (standing self.old.controller (K.seen kernel.now)) ∷ []) }
+        ensures text { OnOk result
+            (self.new.answer.items ≡ numbered number (refused_text Code.NoDevice)) }
         ensures err { OnErr result (self.new.turns.items ≡ self.old.turns.items) }
         ensures controller { self.new.controller ≡ self.old.controller }
     {
         let code = Code::NoDevice;
         tell_refusal(number, code, &mut self.answer)?;
-        self.note(number, Said::Refused { code }, kernel)
+        self.note(number, Said::Answered(Answer::Refused { code }), kernel)
     }
 
     /// Answers where a packet goes. A link of an unknown name is refused.
@@ -92,7 +109,10 @@ impl Talk {
         requires kept { IsKept self.old.controller (K.seen kernel.now) }
         requires runs { self.old.controller.halted ≡ None }
         requires empty { self.old.answer.items ≡ [] }
-        ensures answers { Answers result (line.Trace (trace.Made uid mark dest link.now)) number (standing self.old.controller (K.seen kernel.now)) (standing self.new.controller (K.seen kernel.now)) self.old.turns.items self.new.turns.items self.new.answer.items }
+        ensures answers { Answers result (line.Trace (trace.Made uid mark dest link.now)) number
+            (standing self.old.controller (K.seen kernel.now))
+            (standing self.new.controller (K.seen kernel.now)) self.old.turns.items
+            self.new.turns.items self.new.answer.items }
         ensures controller { self.new.controller ≡ self.old.controller }
     {
         match link {
@@ -117,8 +137,14 @@ impl Talk {
         kernel: &K,
     ) -> Result<(), AllocError>
         requires empty { self.old.answer.items ≡ [] }
-        ensures ok { OnOk result (self.new.turns.items ≡ self.old.turns.items ++ turn_of number Said.Shown (standing self.old.controller (K.seen kernel.now)) ∷ []) }
-        ensures text { OnOk result (self.new.answer.items ≡ numbered number (rules_text self.old.controller.state (rules_of (state_of (K.seen kernel.now)) family))) }
+        ensures ok { OnOk result
+            (self.new.turns.items ≡ self.old.turns.items
+            ++ turn_of number Said.Shown (standing self.old.controller (K.seen kernel.now)) ∷ []) }
+        ensures text { OnOk result
+            (self.new.answer.items
+            ≡ numbered number
+            (rules_text self.old.controller.state
+            (rules_of (state_of (K.seen kernel.now)) family))) }
         ensures err { OnErr result (self.new.turns.items ≡ self.old.turns.items) }
         ensures controller { self.new.controller ≡ self.old.controller }
     {
@@ -133,8 +159,14 @@ impl Talk {
         kernel: &K,
     ) -> Result<(), AllocError>
         requires empty { self.old.answer.items ≡ [] }
-        ensures ok { OnOk result (self.new.turns.items ≡ self.old.turns.items ++ turn_of number Said.Shown (standing self.old.controller (K.seen kernel.now)) ∷ []) }
-        ensures text { OnOk result (self.new.answer.items ≡ numbered number (routes_text self.old.controller.state (routes_of table (state_of (K.seen kernel.now)).tables))) }
+        ensures ok { OnOk result
+            (self.new.turns.items ≡ self.old.turns.items
+            ++ turn_of number Said.Shown (standing self.old.controller (K.seen kernel.now)) ∷ []) }
+        ensures text { OnOk result
+            (self.new.answer.items
+            ≡ numbered number
+            (routes_text self.old.controller.state
+            (routes_of table (state_of (K.seen kernel.now)).tables))) }
         ensures err { OnErr result (self.new.turns.items ≡ self.old.turns.items) }
         ensures controller { self.new.controller ≡ self.old.controller }
     {
@@ -144,8 +176,11 @@ impl Talk {
 
     fn show_networks<K: Kernel>(&mut self, number: u32, kernel: &K) -> Result<(), AllocError>
         requires empty { self.old.answer.items ≡ [] }
-        ensures ok { OnOk result (self.new.turns.items ≡ self.old.turns.items ++ turn_of number Said.Shown (standing self.old.controller (K.seen kernel.now)) ∷ []) }
-        ensures text { OnOk result (self.new.answer.items ≡ numbered number (networks_text self.old.controller.state)) }
+        ensures ok { OnOk result
+            (self.new.turns.items ≡ self.old.turns.items
+            ++ turn_of number Said.Shown (standing self.old.controller (K.seen kernel.now)) ∷ []) }
+        ensures text { OnOk result
+            (self.new.answer.items ≡ numbered number (networks_text self.old.controller.state)) }
         ensures err { OnErr result (self.new.turns.items ≡ self.old.turns.items) }
         ensures controller { self.new.controller ≡ self.old.controller }
     {
@@ -161,7 +196,10 @@ impl Talk {
         kernel: &K,
     ) -> Result<(), AllocError>
         requires empty { self.old.answer.items ≡ [] }
-        ensures answers { Answers result (line.Show show.now) number (standing self.old.controller (K.seen kernel.now)) (standing self.new.controller (K.seen kernel.now)) self.old.turns.items self.new.turns.items self.new.answer.items }
+        ensures answers { Answers result (line.Show show.now) number
+            (standing self.old.controller (K.seen kernel.now))
+            (standing self.new.controller (K.seen kernel.now)) self.old.turns.items
+            self.new.turns.items self.new.answer.items }
         ensures controller { self.new.controller ≡ self.old.controller }
     {
         match *show {

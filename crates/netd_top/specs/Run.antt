@@ -1,49 +1,55 @@
 -- What the program does, by the form of its words.
-use Rattle.std.specs.Prelude.{◌≡◌, ◌⊎◌, ℕ, ◌<◌, ◌≤◌, List, [], ◌∷◌, ◌++◌, codes, take, length, Some}
-use Rattle.std.specs.Io.KnownBytes.{Appends}
-use Rattle.command_words.specs.Forms.{FormView, IsForm}
-use Rattle.command_words.specs.Forms.{run}
+use Rattle.std.specs.Prelude.{◌≡◌, ◌⊎◌, ℕ, List, ◌∷◌, [], ◌++◌, codes, Some, Ok, Err}
+use Rattle.command_words.specs.Forms.{FormView, IsForm, run}
 use Rattle.kernel_model.specs.View.{KernelView}
-use Rattle.netd_session.specs.Ending.{World, IsSession}
-use Rattle.netd_session.specs.Offers.{Written}
-use Rattle.netd_session.specs.declared.turn.Turn.{Turn}
-use Rattle.netd_session.specs.declared.status.Status.{Status}
-use Rattle.netd_session.specs.declared.status.Status.TheVariants as status
+use Rattle.net_io.specs.Streams.{SinkView}
+use Rattle.netd_session.specs.EndedView.{EndedView}
+use Rattle.netd_session.specs.Ends.{IsSession}
+use Rattle.netd_session.specs.Stops.{End, goes_on, status_of}
+use Rattle.netd_session.specs.Telling.{Tells}
+use Rattle.netd_session.specs.World.{World}
+use Rattle.netd_session.specs.declared.end.Status.{Status}
+use Rattle.netd_session.specs.declared.end.Status.TheVariants as status
+use Rattle.netd_session.specs.declared.end.Stop.TheVariants as stop
 
 -- a kernel that refuses and breaks what these lists say
 abbrev pub armed : KernelView → List ℕ → List ℕ → KernelView
-armed kernel refuse breaks = record kernel { lists = Some (record { refuse = refuse; breaks = breaks }) }
+armed kernel refuse breaks =
+    record kernel { lists = Some (record { refuse = refuse; breaks = breaks }) }
+
+-- the world with its kernel armed so
+abbrev pub with_lists : World → List ℕ → List ℕ → World
+with_lists w refuse breaks = record w { kernel = armed w.kernel refuse breaks }
 
 -- `run`: a session on the kernel that was handed in, armed with the lists
 abbrev pub DoesForm : FormView → (old new : World) → Status → Type 0
-DoesForm (run refuse breaks) old new ended =
-    (turns : List Turn) × IsSession (record old { kernel = armed old.kernel refuse breaks }) new (record { status = ended; turns = turns })
+DoesForm (run refuse breaks) old new s =
+    (ended : EndedView) × IsSession (with_lists old refuse breaks) new ended
+    × (s ≡ status_of ended.result)
 
 -- what is printed where the words have no form
 abbrev pub usage_text : List ℕ
 usage_text = codes "usage: netd_run run [--refuse LIST] [--break LIST]" ++ 10 ∷ []
 
--- the usage text was taken, or a front of it
-abbrev pub EndsUsage : Status → (taken whole : ℕ) → (old new : ℕ) → Type 0
-EndsUsage status.BadWords taken whole old new = (taken ≡ whole) × (new ≡ old)
-EndsUsage status.WriteFault taken whole old new = (taken < whole) × (old < new)
-EndsUsage status.Memory taken whole old new = (taken ≤ whole) × (new ≡ old)
-EndsUsage _ taken whole old new = ⊥
+-- the status once the usage text was told, or a prefix of it
+abbrev pub usage_status : End → Status
+usage_status (Ok u) = status.BadWords
+usage_status (Err s) = status.Stopped s
 
 -- what telling the usage text does to a sink
-pub record TellsText (status : Status) (old new : Written) : Type 0 where
-  pub taken : ℕ
-  pub written : Appends old.bytes new.bytes (take taken usage_text)
-  pub ends : EndsUsage status taken (length usage_text) old.faults new.faults
+pub record TellsText (s : Status) (old new : SinkView) : Type 0 where
+  pub result : End
+  pub told : Tells usage_text goes_on result old new
+  pub status_is : s ≡ usage_status result
 
 -- the usage text is written; nothing is read, and the kernel stays as it was
-pub record TellsUsage (old new : World) (status : Status) : Type 0 where
-  pub told : TellsText status (record { bytes = old.written; faults = old.write_faults }) (record { bytes = new.written; faults = new.write_faults })
-  pub rest : new ≡ record old { written = new.written; write_faults = new.write_faults }
+pub record TellsUsage (old new : World) (s : Status) : Type 0 where
+  pub told : TellsText s old.sink new.sink
+  pub rest : new ≡ record old { sink = new.sink }
 
--- what the program does with these words; want of memory before anything was done leaves all as it was
+-- what the program does with these words; where memory runs out before anything was done, all stays as it was
 abbrev pub DoesRun : List (List ℕ) → (old new : World) → Status → Type 0
-DoesRun words old new ended =
-    ((form : FormView) × IsForm words form × DoesForm form old new ended)
-    ⊎ ((((form : FormView) → IsForm words form → ⊥) × TellsUsage old new ended)
-    ⊎ ((ended ≡ status.Memory) × (new ≡ old)))
+DoesRun words old new s =
+    ((form : FormView) × IsForm words form × DoesForm form old new s)
+    ⊎ ((((form : FormView) → IsForm words form → ⊥) × TellsUsage old new s)
+    ⊎ ((s ≡ status.Stopped stop.Memory) × (new ≡ old)))

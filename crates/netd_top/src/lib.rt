@@ -3,5 +3,5 @@
 
 mod top;
 
-pub use netd_session::Status;
+pub use netd_session::{Status, Stop};
 pub use top::run;

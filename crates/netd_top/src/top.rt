@@ -1,17 +1,17 @@
-ghost use Rattle.std.specs.Prelude.{◌≡◌, ◌≤◌, false, [], length, map, string_bytes};
+ghost use Rattle.std.specs.Prelude.{◌≤◌, length, map, string_bytes};
 ghost use Rattle.command_words.specs.View.{view_of};
 ghost use Rattle.kernel_model.specs.Form.{AreWellFormed};
 ghost use Rattle.net_control.specs.Limit.{journal_limit};
 ghost use Rattle.net_io.specs.Streams.{CanCount};
-ghost use Rattle.netd_session.specs.Ending.{world};
+ghost use Rattle.netd_session.specs.World.{MayBegin, world};
 ghost use Rattle.netd_top.specs.Causes.{HasRunCauses};
 ghost use Rattle.netd_top.specs.History.{FailsWhereListed, HasRunHistory};
 ghost use Rattle.netd_top.specs.Run.{DoesForm, DoesRun, TellsText};
 
 use command_words::{Form, WordsFault, one_form, read_words, usage};
 use kernel_model::Armed;
-use net_io::{Sink, Source, WriteFault};
-use netd_session::{Status, offer, session};
+use net_io::{Sink, Source};
+use netd_session::{Status, Stop, offer, session};
 use policy_meaning::own_rule_means_start;
 use std::alloc::Global;
 
@@ -22,8 +22,7 @@ fn tell_usage<W: Sink>(sink: &mut W) -> Status
 {
     match offer(sink, usage().as_bytes()) {
         Ok(()) => Status::BadWords,
-        Err(WriteFault::Failed) => Status::WriteFault,
-        Err(WriteFault::Memory(_)) => Status::Memory,
+        Err(stop) => Status::Stopped(stop),
     }
 }
 
@@ -35,10 +34,8 @@ fn carry_out<S: Source, W: Sink, K: Armed>(
     sink: &mut W,
     kernel: &mut K,
 ) -> Status
-    requires starting { (K.seen kernel.old).journal ≡ [] }
-    requires reads { CanCount (S.seen source.old).faults }
-    requires writes { CanCount (W.seen sink.old).faults }
-    requires not_ended { (S.seen source.old).ended ≡ false }
+    requires { MayBegin
+        (world (S.seen source.old) (W.seen sink.old) (K.seen kernel.old)) }
     ensures { DoesForm (view_of form)
         (world (S.seen source.old) (W.seen sink.old) (K.seen kernel.old))
         (world (S.seen source.new) (W.seen sink.new) (K.seen kernel.new))
@@ -60,10 +57,8 @@ fn obey<S: Source, W: Sink, K: Armed>(
     sink: &mut W,
     kernel: &mut K,
 ) -> Status
-    requires starting { (K.seen kernel.old).journal ≡ [] }
-    requires reads { CanCount (S.seen source.old).faults }
-    requires writes { CanCount (W.seen sink.old).faults }
-    requires not_ended { (S.seen source.old).ended ≡ false }
+    requires { MayBegin
+        (world (S.seen source.old) (W.seen sink.old) (K.seen kernel.old)) }
     ensures { DoesRun (map string_bytes words.now)
         (world (S.seen source.old) (W.seen sink.old) (K.seen kernel.old))
         (world (S.seen source.new) (W.seen sink.new) (K.seen kernel.new))
@@ -72,7 +67,7 @@ fn obey<S: Source, W: Sink, K: Armed>(
     match read_words(alloc, words) {
         Ok(form) => carry_out(alloc, form, source, sink, kernel),
         Err(WordsFault::NoForm) => tell_usage(sink),
-        Err(WordsFault::Memory(_)) => Status::Memory,
+        Err(WordsFault::Memory(_)) => Status::Stopped(Stop::Memory),
     }
 }
 
@@ -85,10 +80,8 @@ pub fn run<S: Source, W: Sink, K: Armed>(
     sink: &mut W,
     kernel: &mut K,
 ) -> Status
-    requires starting { (K.seen kernel.old).journal ≡ [] }
-    requires reads { CanCount (S.seen source.old).faults }
-    requires writes { CanCount (W.seen sink.old).faults }
-    requires not_ended { (S.seen source.old).ended ≡ false }
+    requires { MayBegin
+        (world (S.seen source.old) (W.seen sink.old) (K.seen kernel.old)) }
     ensures does { DoesRun (map string_bytes words.now)
         (world (S.seen source.old) (W.seen sink.old) (K.seen kernel.old))
         (world (S.seen source.new) (W.seen sink.new) (K.seen kernel.new))

@@ -37,7 +37,7 @@ fn must_do<K: Kernel>(
     ensures { IsKept controller.new (K.seen kernel.new) }
 {
     let answer = controller.apply(kernel, &command);
-    assert_eq!(rt; answer, Answer::Done);
+    assert_eq!(rt; answer.ok(), Some(Answer::Done));
 }
 
 // A link that becomes an interface of the network, with a route to everywhere.
@@ -142,7 +142,7 @@ fn halts_at(rt: &impl Abort, alloc: Global, packets: &[Packet], broken: u32) -> 
     build(rt, &mut controller, &mut kernel);
     let before = verdicts(alloc, controller.state(), packets)?;
     let after = verdicts_behind(alloc, controller.state(), packets)?;
-    let answer = controller.apply(&mut kernel, &new_permission());
+    let answer = controller.apply(&mut kernel, &new_permission())?;
     let request = ADDITIONS + broken;
     assert_eq!(rt; answer, Answer::Halted { request });
     assert_among(rt, &kernel, packets, &before, &after);

@@ -1,5 +1,5 @@
 use net_io::{MemSink, MemSource};
-use netd_top::{Status, run};
+use netd_top::{Status, Stop, run};
 use sim_kernel::SimKernel;
 use std::alloc::{AllocError, Global};
 use std::test::Fail;
@@ -46,16 +46,16 @@ fn pieces_change_nothing(rt: HostRuntime) -> Result<(), Fail> {
 fn fails_at_each_call(rt: HostRuntime) -> Result<(), Fail> {
     let whole = (600, 600);
     let (status, written) = run_script(rt.alloc(), whole, &[1], &[])?;
-    assert!(rt; status == Status::ReadFault);
+    assert!(rt; status == Status::Stopped(Stop::ReadFault));
     assert!(rt; written.is_empty());
     let (status, written) = run_script(rt.alloc(), whole, &[2], &[])?;
-    assert!(rt; status == Status::ReadFault);
+    assert!(rt; status == Status::Stopped(Stop::ReadFault));
     assert!(rt; written.as_slice() == BOTH);
     let (status, written) = run_script(rt.alloc(), whole, &[], &[1])?;
-    assert!(rt; status == Status::WriteFault);
+    assert!(rt; status == Status::Stopped(Stop::WriteFault));
     assert!(rt; written.is_empty());
     let (status, written) = run_script(rt.alloc(), whole, &[], &[2])?;
-    assert!(rt; status == Status::WriteFault);
+    assert!(rt; status == Status::Stopped(Stop::WriteFault));
     assert!(rt; written.as_slice() == FIRST);
     Ok(())
 }

@@ -3,8 +3,8 @@ use Rattle.std.specs.Prelude.{ℕ, ◌<◌, ◌^◌, List, [], ◌∷◌, ◌++�
 use Rattle.std.specs.Fmt.{decimal}
 use Rattle.net_names.specs.Code.{text_of}
 use Rattle.net_names.specs.declared.code.Code.{Code}
-use Rattle.net_control.specs.declared.controller.Answer.{Answer}
-use Rattle.net_control.specs.declared.controller.Answer.TheVariants as answer
+use Rattle.turn_text.specs.declared.answer.Answer.{Answer}
+use Rattle.turn_text.specs.declared.answer.Answer.TheVariants as answer
 
 -- a line's answer: its number and the text
 abbrev pub numbered : ℕ → List ℕ → List ℕ
@@ -20,13 +20,11 @@ number_line words number = words ++ decimal number ++ line_feed
 abbrev pub refused_text : Code → List ℕ
 refused_text code = codes "refused " ++ text_of code ++ line_feed
 
--- of want of memory nothing is said
 abbrev pub answer_text : Answer → List ℕ
 answer_text answer.Done = codes "done" ++ line_feed
 answer_text (answer.Refused code) = refused_text code
 answer_text (answer.KernelRefused request) = number_line (codes "kernel refused request ") request
 answer_text (answer.Halted request) = number_line (codes "halted at request ") request
-answer_text answer.NoMemory = []
 
 -- a line that is none of the grammar
 abbrev pub bad_text : ℕ → List ℕ
@@ -44,8 +42,11 @@ IsCounted answer.Done = Unit {0}
 IsCounted (answer.Refused code) = Unit {0}
 IsCounted (answer.KernelRefused request) = request < 2 ^ 64
 IsCounted (answer.Halted request) = request < 2 ^ 64
-IsCounted answer.NoMemory = Unit {0}
 
 -- room for the answer to any command
 abbrev pub answer_room : ℕ
 answer_room = 80
+
+-- room for the text of a start that failed
+abbrev pub start_room : ℕ
+start_room = 64

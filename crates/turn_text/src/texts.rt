@@ -1,8 +1,8 @@
 ghost use Rattle.std.specs.Prelude.{◌≡◌, [], ◌++◌, ◌+◌, ◌≤◌, vec_len, vec_capacity};
 ghost use Rattle.number_text.specs.Appends.{Appends};
-ghost use Rattle.turn_text.specs.Texts.{IsCounted, answer_room, answer_text, bad_text, number_line, numbered, refused_text, start_halted_text, start_refused_text};
+ghost use Rattle.turn_text.specs.Texts.{IsCounted, answer_room, answer_text, bad_text, number_line, numbered, refused_text, start_halted_text, start_refused_text, start_room};
 
-use net_control::Answer;
+use crate::answer::Answer;
 use net_names::Code;
 use number_text::{append_bytes, write_decimal};
 use std::alloc::AllocError;
@@ -35,7 +35,6 @@ fn write_words(answer: &Answer, out: &mut Vec<u8>) -> Result<(), AllocError>
             write_number_line(b"kernel refused request ", request, out)
         }
         Answer::Halted { request } => write_number_line(b"halted at request ", request, out),
-        Answer::NoMemory => append_bytes(b"", out),
     }
 }
 
@@ -73,16 +72,18 @@ pub fn write_bad_line(number: u32, column: u32, out: &mut Vec<u8>) -> Result<(),
     write_number_line(b"bad line at column ", u64::from(column), out)
 }
 
-/// Appends the text of a start that the kernel refused.
-pub fn write_start_refused(request: u64, out: &mut Vec<u8>) -> Result<(), AllocError>
-    ensures { Appends out.old out.new result (start_refused_text request) }
+/// Appends the text of a start that the kernel refused, in the room that is there.
+pub fn put_start_refused(request: u64, out: &mut Vec<u8>)
+    requires room { vec_len out.old + start_room ≤ vec_capacity out.old }
+    ensures { out.new.items ≡ out.old.items ++ start_refused_text request }
 {
-    write_number_line(b"start: refused at request ", request, out)
+    let _ = write_number_line(b"start: refused at request ", request, out);
 }
 
-/// Appends the text of a start that was halted.
-pub fn write_start_halted(request: u64, out: &mut Vec<u8>) -> Result<(), AllocError>
-    ensures { Appends out.old out.new result (start_halted_text request) }
+/// Appends the text of a start that was halted, in the room that is there.
+pub fn put_start_halted(request: u64, out: &mut Vec<u8>)
+    requires room { vec_len out.old + start_room ≤ vec_capacity out.old }
+    ensures { out.new.items ≡ out.old.items ++ start_halted_text request }
 {
-    write_number_line(b"start: halted at request ", request, out)
+    let _ = write_number_line(b"start: halted at request ", request, out);
 }

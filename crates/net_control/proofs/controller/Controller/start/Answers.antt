@@ -6,6 +6,7 @@ use Rattle.kernel_model.specs.View.{state_of}
 use Rattle.kernel_model.specs.Walk.{walk}
 use Rattle.net_control.proofs.Causing.{has_start_cause}
 use Rattle.net_control.proofs.Forming.{start_formed}
+use Rattle.net_control.proofs.Once.{start_as_before, start_once}
 use Rattle.net_control.proofs.Policed.{begun, by_policy, started_sends}
 use Rattle.policy_meaning.specs.Policy.{policy}
 use Rattle.policy_state.proofs.Goodness.{good-start}
@@ -34,3 +35,9 @@ returns-clause-moments g c =
 
 pub returns-clause-formed : goal.returns-clause-formed
 returns-clause-formed g c = start_formed c.ask_start.result (g.K.Kernel.seen c.args.kernel.now) (g.K.Kernel.seen c.ask_start.new.kernel) c.ask_start.ensures.answer c.requires
+
+pub returns-clause-once : goal.returns-clause-once
+returns-clause-once g c = start_once (g.K.Kernel.seen c.args.kernel.now) (g.K.Kernel.seen c.ask_start.new.kernel) (returns-clause-moments g c)
+
+pub returns-clause-as_before : goal.returns-clause-as_before
+returns-clause-as_before g c = start_as_before c.ask_start.result (g.K.Kernel.seen c.args.kernel.now) (g.K.Kernel.seen c.ask_start.new.kernel) c.requires c.ask_start.ensures.answer

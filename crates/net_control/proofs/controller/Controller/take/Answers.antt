@@ -22,12 +22,12 @@ carry-requires g c =
     let runs : c.self.inside.halted ≡ None = ap (λ (v : ControllerView). v.halted) c.self.view_is ∙ c.requires.runs in
     let may : MayStep (state_of before) s command =
     may_step (record { state = s; halted = c.self.inside.halted }) before command kept runs c.fits_types.ensures c.in-Ok.ensures.accepted in
-    let room : 2 * length c.in-Ok-plan.plan.adds + length c.in-Ok-plan.plan.deletes ≤ (g.K.Kernel.room c.make_room.new.kernel).spare =
-    omega (arith, c.in-Some.ensures.0, c.in_default-make_room.ensures.spare) in
-    may_carry c.in-Ok-plan.plan (asked s command) before (g.K.Kernel.seen c.make_room.new.kernel) (g.K.Kernel.room c.make_room.new.kernel) c.in-Ok-plan.ensures c.make_room.ensures.seen
+    let room : 2 * length c.in_ok-plan.plan.adds + length c.in_ok-plan.plan.deletes ≤ (g.K.Kernel.room c.make_room.new.kernel).spare =
+    omega (arith, c.in-Some.ensures.0, c.in_ok-make_room.ensures.spare) in
+    may_carry c.in_ok-plan.plan (asked s command) before (g.K.Kernel.seen c.make_room.new.kernel) (g.K.Kernel.room c.make_room.new.kernel) c.in_ok-plan.ensures c.make_room.ensures.seen
     (c.requests_can_be_asked.ensures.distinct (state_of before) s command may) (c.requests_can_be_asked.ensures.absent (state_of before) s command may)
     (c.requests_can_be_asked.ensures.present (state_of before) s command may) (c.requests_can_be_asked.ensures.one_kind s command)
-    room c.in_default-make_room.ensures.ready
+    room c.in_ok-make_room.ensures.ready
 
 pub returns-in-Done-clause-kept : goal.returns-in-Done-clause-kept
 returns-in-Done-clause-kept g c =
@@ -42,5 +42,5 @@ returns-in-Done-clause-kept g c =
       good = c.in-Ok.ensures.good;
       stands = λ _. subst (λ (n : StateView). StandsFor after n) (sym c.in-Ok.ensures.changed)
           (stands_for_new before after s command (c.plan_ends.ensures.done (state_of before) s command may)
-          (done_grew c.in-Ok-plan.plan before (g.K.Kernel.seen c.make_room.new.kernel) after s command c.in-Ok-plan.ensures c.make_room.ensures.seen c.in-Done.ensures.carries));
+          (done_grew c.in_ok-plan.plan before (g.K.Kernel.seen c.make_room.new.kernel) after s command c.in_ok-plan.ensures c.make_room.ensures.seen c.in-Done.ensures.carries));
     }

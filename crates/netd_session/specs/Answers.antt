@@ -1,0 +1,122 @@
+-- What a line's answer says, and what it changes.
+use Rattle.std.specs.Prelude.{◌≡◌, ℕ, List, [], ◌∷◌, ◌++◌, codes, Option, None, Some, Ok}
+use Rattle.kernel_model.specs.Form.{AreWellFormed}
+use Rattle.kernel_model.specs.State.{rules_of, routes_of}
+use Rattle.kernel_model.specs.View.{state_of}
+use Rattle.kernel_model.specs.Walk.{trail_of}
+use Rattle.kernel_model.specs.declared.step.Step.{Step}
+use Rattle.net_control.specs.Applied.{IsAnswered}
+use Rattle.net_control.specs.Bounds.{KeepsLimit}
+use Rattle.net_control.specs.Causes.{HasCause}
+use Rattle.net_control.specs.Moments.{GoesOnce, IsAsBefore, KeepsLockdown, KeepsPolicy}
+use Rattle.net_names.specs.declared.code.Code.{Code}
+use Rattle.net_names.specs.declared.code.Code.TheVariants as code
+use Rattle.policy_meaning.specs.Policy.{policy}
+use Rattle.policy_state.specs.Step.{changed}
+use Rattle.policy_state.specs.View.{StateView, link_named}
+use Rattle.commands.specs.declared.command.Command.{Command}
+use Rattle.prefixes.specs.declared.addr.Addr.{Addr}
+use Rattle.report_text.specs.NetworkTexts.{networks_text}
+use Rattle.report_text.specs.RouteTexts.{routes_text}
+use Rattle.report_text.specs.RuleTexts.{rules_text}
+use Rattle.report_text.specs.Trails.{trail_text}
+use Rattle.report_text.specs.Verdicts.{verdict_text}
+use Rattle.rule_match.specs.Packet.{IsMade}
+use Rattle.rule_match.specs.declared.packet.Packet.{Packet}
+use Rattle.rule_match.specs.declared.verdict.Verdict.{Verdict}
+use Rattle.word_text.specs.Texts.{mark_text}
+use Rattle.script_reader.specs.declared.line.Line.{Line}
+use Rattle.script_reader.specs.declared.line.Line.TheVariants as line
+use Rattle.script_reader.specs.declared.line.ShowLine.TheVariants as show
+use Rattle.script_reader.specs.declared.line.TraceLine.TheVariants as trace
+use Rattle.turn_text.specs.Texts.{answer_text, line_feed, numbered, refused_text}
+use Rattle.turn_text.specs.declared.answer.Answer.{Answer}
+use Rattle.turn_text.specs.declared.answer.Answer.TheVariants as answer
+use Rattle.uid_ranges.specs.declared.range.Uid.{Uid}
+use Rattle.netd_session.specs.Turns.{Standing, turn_of}
+use Rattle.netd_session.specs.declared.turn.Said.{Said}
+use Rattle.netd_session.specs.declared.turn.Said.TheVariants as said
+use Rattle.netd_session.specs.declared.turn.Turn.{Turn}
+
+-- a blank line has no turn and changes nothing
+abbrev pub IsPassedOver : (s e : Standing) → List Turn → List ℕ → Type 0
+IsPassedOver s e turns out = (e ≡ s) × (turns ≡ []) × (out ≡ [])
+
+-- A command is answered by the controller, each answer by its cause. At every moment of it packets go where the policy
+-- before or after it says, and lockdown holds.
+pub record IsCommanded (command : Command) (n : ℕ) (s e : Standing) (turns : List Turn)
+    (out : List ℕ) : Type 0 where
+  pub a : Answer
+  pub answered : IsAnswered (Ok a) command s.controller e.controller s.kernel e.kernel
+  pub turns_are : turns ≡ turn_of n (said.Answered a) e ∷ []
+  pub text : out ≡ numbered n (answer_text a)
+  pub caused : HasCause (Ok a) command s.controller e.controller s.kernel e.kernel
+  pub bounded : KeepsLimit s.controller.state command s.kernel e.kernel
+  pub formed : AreWellFormed s.kernel.journal → AreWellFormed e.kernel.journal
+  pub moments : KeepsPolicy s.kernel e.kernel s.controller.state
+      (changed s.controller.state command)
+  pub locked : KeepsLockdown s.kernel e.kernel s.controller.state
+      (changed s.controller.state command)
+  -- one switch where nothing was undone, and the very kernel after a refusal by it
+  pub once : GoesOnce s.kernel e.kernel s.controller.state (changed s.controller.state command)
+  pub as_before : IsAsBefore (Ok a) s.kernel e.kernel
+
+-- a line that changes nothing, by what it says and by its text
+abbrev pub IsTold : Said → List ℕ → ℕ → (s e : Standing) → List Turn → List ℕ → Type 0
+IsTold what text n s e turns out = (e ≡ s) × (turns ≡ turn_of n what e ∷ [])
+    × (out ≡ numbered n text)
+
+-- a question that is refused with this code
+abbrev pub IsRefused : Code → ℕ → (s e : Standing) → List Turn → List ℕ → Type 0
+IsRefused c n s e turns out =
+    IsTold (said.Answered (answer.Refused c)) (refused_text c) n s e turns out
+
+-- a report of what there is
+abbrev pub IsShown : List ℕ → ℕ → (s e : Standing) → List Turn → List ℕ → Type 0
+IsShown text n s e turns out = IsTold said.Shown text n s e turns out
+
+-- where a packet with this mark goes, and the rules that it meets on the way
+abbrev pub went_text : StateView → ℕ → Verdict → List Step → List ℕ
+went_text state mark verdict trail =
+    codes "mark " ++ mark_text mark ++ codes " " ++ verdict_text state verdict ++ line_feed
+    ++ trail_text trail
+
+-- a packet's line says where the policy sends it, and prints the rules that it meets on the way
+abbrev pub IsTraced : Packet → ℕ → (s e : Standing) → List Turn → List ℕ → Type 0
+IsTraced packet n s e turns out =
+    IsTold (said.Went packet.mark (policy s.controller.state packet))
+    (went_text s.controller.state packet.mark (policy s.controller.state packet)
+    (trail_of (state_of s.kernel) packet)) n s e turns out
+
+-- the packet that is made with this binding is traced
+abbrev pub IsMadeAndTraced : Uid → ℕ → Addr → Option ℕ → ℕ → (s e : Standing) → List Turn → List ℕ
+    → Type 0
+IsMadeAndTraced uid mark dest bound n s e turns out = (packet : Packet)
+    × IsMade uid mark dest bound packet × IsTraced packet n s e turns out
+
+-- a packet that is bound to the link of a name; a name that no link has is refused
+abbrev pub IsBoundAndTraced : Uid → ℕ → Addr → Option ℕ → ℕ → (s e : Standing) → List Turn → List ℕ
+    → Type 0
+IsBoundAndTraced uid mark dest (Some link) n s e turns out = IsMadeAndTraced uid mark dest
+    (Some link) n s e turns out
+IsBoundAndTraced uid mark dest None n s e turns out = IsRefused code.NoDevice n s e turns out
+
+-- what a packet's line says: the packet is bound to no link, or to the one of this name
+abbrev pub IsPacketLine : Uid → ℕ → Addr → Option (List ℕ) → ℕ → (s e : Standing) → List Turn
+    → List ℕ → Type 0
+IsPacketLine uid mark dest None n s e turns out = IsMadeAndTraced uid mark dest None n s e turns out
+IsPacketLine uid mark dest (Some name) n s e turns out = IsBoundAndTraced uid mark dest
+    (link_named s.controller.state name) n s e turns out
+
+-- what the line says, and what it changes
+abbrev pub IsAnsweredLine : Line → ℕ → (s e : Standing) → List Turn → List ℕ → Type 0
+IsAnsweredLine line.Blank n s e turns out = IsPassedOver s e turns out
+IsAnsweredLine (line.Control command) n s e turns out = IsCommanded command n s e turns out
+IsAnsweredLine (line.Trace (trace.Made uid mark dest link)) n s e turns out = IsPacketLine uid mark
+    dest link n s e turns out
+IsAnsweredLine (line.Show (show.Rules family)) n s e turns out = IsShown
+    (rules_text s.controller.state (rules_of (state_of s.kernel) family)) n s e turns out
+IsAnsweredLine (line.Show (show.Table number)) n s e turns out = IsShown
+    (routes_text s.controller.state (routes_of number (state_of s.kernel).tables)) n s e turns out
+IsAnsweredLine (line.Show show.Networks) n s e turns out = IsShown
+    (networks_text s.controller.state) n s e turns out

@@ -1,0 +1,135 @@
+ghost use Rattle.std.specs.Prelude.{◌≡◌, [], None, OnOk, IfOk};
+ghost use Rattle.number_text.specs.Appends.{Appends};
+ghost use Rattle.turn_text.specs.Texts.{numbered, refused_text};
+ghost use Rattle.kernel_model.specs.State.{rules_of, routes_of};
+ghost use Rattle.kernel_model.specs.View.{state_of};
+ghost use Rattle.kernel_model.specs.Walk.{trail_of};
+ghost use Rattle.net_control.specs.View.{IsKept};
+ghost use Rattle.policy_meaning.specs.Policy.{policy};
+ghost use Rattle.report_text.specs.NetworkTexts.{networks_text};
+ghost use Rattle.report_text.specs.RouteTexts.{routes_text};
+ghost use Rattle.report_text.specs.RuleTexts.{rules_text};
+ghost use Rattle.netd_session.specs.Answers.{went_text};
+
+use crate::turn::Said;
+use kernel_model::Kernel;
+use net_control::Controller;
+use net_names::Code;
+use number_text::append_bytes;
+use packet_trace::{Trail, follow};
+use policy_meaning::table_means_policy;
+use policy_state::State;
+use prefixes::Family;
+use report_text::{write_networks, write_rules, write_table, write_trail, write_verdict};
+use rule_match::{Packet, Verdict};
+use std::alloc::{AllocError, Global};
+use turn_text::{write_line_number, write_refused};
+use word_text::write_mark;
+
+// Appends the text of a packet's way.
+fn write_way(
+    state: &State,
+    mark: u32,
+    verdict: &Verdict,
+    trail: &Trail,
+    answer: &mut Vec<u8>,
+) -> Result<(), AllocError>
+    ensures { Appends answer.old answer.new result
+        (went_text state.now mark verdict.now trail.now.steps) }
+{
+    append_bytes(b"mark ", answer)?;
+    write_mark(mark, answer)?;
+    append_bytes(b" ", answer)?;
+    write_verdict(state, verdict, answer)?;
+    append_bytes(b"\n", answer)?;
+    write_trail(trail, answer)
+}
+
+// Tells where the policy sends the packet, which is where the kernel's rules send it, and the rules that it meets.
+pub(crate) fn tell_packet<K: Kernel>(
+    alloc: Global,
+    number: u32,
+    packet: &Packet,
+    controller: &Controller,
+    kernel: &K,
+    answer: &mut Vec<u8>,
+) -> Result<Said, AllocError>
+    requires kept { IsKept controller.now (K.seen kernel.now) }
+    requires runs { controller.now.halted ≡ None }
+    requires empty { answer.old.items ≡ [] }
+    ensures said { IfOk result
+        (λ said. said ≡ Said.Went packet.now.mark (policy controller.now.state packet.now)) }
+    ensures text { OnOk result
+        (answer.new.items
+        ≡ numbered number
+        (went_text controller.now.state packet.now.mark (policy controller.now.state packet.now)
+        (trail_of (state_of (K.seen kernel.now)) packet.now))) }
+{
+    table_means_policy();
+    let trail = follow(alloc, kernel, packet)?;
+    let verdict = trail.verdict();
+    let mark = packet.mark();
+    write_line_number(number, answer)?;
+    write_way(controller.state(), mark, &verdict, &trail, answer)?;
+    Ok(Said::Went { mark, verdict })
+}
+
+// Tells the kernel's rules of a family.
+pub(crate) fn tell_rules<K: Kernel>(
+    number: u32,
+    family: Family,
+    controller: &Controller,
+    kernel: &K,
+    answer: &mut Vec<u8>,
+) -> Result<(), AllocError>
+    requires empty { answer.old.items ≡ [] }
+    ensures text { OnOk result
+        (answer.new.items
+        ≡ numbered number
+        (rules_text controller.now.state (rules_of (state_of (K.seen kernel.now)) family))) }
+{
+    write_line_number(number, answer)?;
+    write_rules(kernel, controller.state(), family, answer)
+}
+
+// Tells the routes of a table of the kernel.
+pub(crate) fn tell_table<K: Kernel>(
+    number: u32,
+    table: u32,
+    controller: &Controller,
+    kernel: &K,
+    answer: &mut Vec<u8>,
+) -> Result<(), AllocError>
+    requires empty { answer.old.items ≡ [] }
+    ensures text { OnOk result
+        (answer.new.items
+        ≡ numbered number
+        (routes_text controller.now.state
+        (routes_of table (state_of (K.seen kernel.now)).tables))) }
+{
+    write_line_number(number, answer)?;
+    write_table(kernel, controller.state(), table, answer)
+}
+
+// Tells the networks of the state.
+pub(crate) fn tell_networks(
+    number: u32,
+    controller: &Controller,
+    answer: &mut Vec<u8>,
+) -> Result<(), AllocError>
+    requires empty { answer.old.items ≡ [] }
+    ensures text { OnOk result
+        (answer.new.items ≡ numbered number (networks_text controller.now.state)) }
+{
+    write_line_number(number, answer)?;
+    write_networks(controller.state(), answer)
+}
+
+// Tells why a question is refused.
+pub(crate) fn tell_refusal(number: u32, code: Code, answer: &mut Vec<u8>) -> Result<(), AllocError>
+    requires empty { answer.old.items ≡ [] }
+    ensures text { OnOk result (answer.new.items ≡ numbered number (refused_text code)) }
+{
+    write_line_number(number, answer)?;
+    write_refused(code, answer)
+}
