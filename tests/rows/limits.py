@@ -40,7 +40,7 @@ def networks_at_the_limit():
     networks = done(*("network create %d physical none" % net for net in range(100, 1099)))
     full = refused("ENOSPC", "network create 1099 physical none")
     full += refused("EEXIST", "network create 100 physical none", "network create 1098 physical system")
-    full += refused("EINVAL", "network create 98 physical none", "network create 0 physical none")
+    full += refused("EINVAL", "network create 99 physical none", "network create 0 physical none")
     return dialog("limit-networks", networks + full)
 
 
@@ -81,20 +81,24 @@ def orders():
     links += refused("ENODEV", "link remove x") + refused("EINVAL", "link remove lo") + refused("EBUSY", "link remove w", "link remove v")
     yield dialog("order-links", SMALL + links + done("link remove u"))
 
+    networks = refused("EINVAL", "network create 99 physical system", "network create 98 physical none")
+    networks += refused("EEXIST", "network create 100 physical none", "network create 101 physical system")
+    yield dialog("order-networks", SMALL + networks + done("network create 65535 physical none"))
+
     permissions = refused("ENONET", "permission network 102 system", "permission network 0 none")
     permissions += refused("EINVAL", "permission network 99 system", "permission network 99 none")
     yield dialog("order-permissions", SMALL + permissions + done("permission network 100 none"))
 
     prefix = "0.0.0.0/0 via ::1"
     additions = refused("ENONET", "route add 102 x " + prefix, "route add 102 w " + prefix, "route add 102 lo " + prefix)
-    additions += refused("ENODEV", "route add 100 x " + prefix, "route add 100 u " + prefix, "route add 100 lo " + prefix)
-    additions += refused("ENOENT", "route add 100 v " + prefix, "route add 101 w " + prefix)
+    additions += refused("ENODEV", "route add 100 x " + prefix, "route add 100 u " + prefix, "route add 100 lo " + prefix, "route add 99 u " + prefix)
+    additions += refused("ENOENT", "route add 100 v " + prefix, "route add 101 w " + prefix, "route add 99 w " + prefix)
     additions += refused("EINVAL", "route add 100 w " + prefix, "route add 100 w ::/0 via 10.0.0.1")
     additions += refused("EEXIST", "route add 100 w 0.0.0.0/0", "route add 100 w 0.0.0.0/0 via 10.0.0.1")
     yield dialog("order-route-additions", SMALL + additions + done("route add 100 w 0.0.0.0/0 throw"))
 
     removals = refused("ENONET", "route remove 102 x 10.0.0.0/8", "route remove 102 w 0.0.0.0/0")
     removals += refused("ENODEV", "route remove 100 x 10.0.0.0/8", "route remove 100 u 0.0.0.0/0", "route remove 100 lo 127.0.0.0/8")
-    removals += refused("ENOENT", "route remove 100 v 10.0.0.0/8", "route remove 101 w 0.0.0.0/0 special")
+    removals += refused("ENOENT", "route remove 100 v 10.0.0.0/8", "route remove 101 w 0.0.0.0/0 special", "route remove 99 v 10.0.0.0/8")
     removals += refused("ESRCH", "route remove 100 w 0.0.0.0/0 special", "route remove 100 w 0.0.0.0/1", "route remove 100 w ::/0")
     yield dialog("order-route-removals", SMALL + removals + done("route remove 100 w 0.0.0.0/0"))
