@@ -23,7 +23,7 @@ use Rattle.script_reader.specs.declared.line.TraceLine.TheVariants as trace
 use Rattle.netd_session.proofs.Growing.{HasGrown, goes_grew, grew_by_none, grew_twice, never_falls, packet_stays, ran_grew, show_stays}
 use Rattle.netd_session.proofs.Tellings.{stopped}
 use Rattle.netd_session.specs.Answers.{IsAnsweredLine}
-use Rattle.netd_session.specs.Causes.{ComesWhere, HasBadLine, HasCauses, InGrammar, IsCausedSession, LeftUndone, NothingFailed, RefusedStart, StandsThen, ToldInPart, ToldWhole}
+use Rattle.netd_session.specs.Causes.{ComesWhere, HasBadLine, HasCauses, InGrammar, IsCausedSession, NothingFailed, RefusedStart, StandsThen, ToldInPart}
 use Rattle.netd_session.specs.EndedView.{EndedView}
 use Rattle.netd_session.specs.Ends.{AtInput, AtLine, AtStart, EndsInput, FailsToStart, HasBegun, HasEnded, HasRun, StopsWhere, at_input, at_line, at_start, before_line, not_begun, read_failed, read_whole, start_halted, start_refused as refused_at, too_long as input_too_long}
 use Rattle.netd_session.specs.Lines.{Goes, IsSaid, Ran, halt, no_line, one_more, says_answer, says_bad}
@@ -31,7 +31,6 @@ use Rattle.netd_session.specs.Stops.{End, goes_on, status_of}
 use Rattle.netd_session.specs.Telling.{IsTaken, no_memory, sink_failed, taken_whole}
 use Rattle.netd_session.specs.Turns.{Standing}
 use Rattle.netd_session.specs.World.{World}
-use Rattle.netd_session.specs.declared.end.Status.{Status}
 use Rattle.netd_session.specs.declared.end.Status.TheVariants as status
 use Rattle.netd_session.specs.declared.end.Stop.{Stop}
 use Rattle.netd_session.specs.declared.end.Stop.TheVariants as stop

@@ -20,8 +20,7 @@ use Rattle.net_control.specs.View.{ControllerView, IsKept}
 use Rattle.net_io.specs.Streams.{SinkView, SourceView}
 use Rattle.script_reader.specs.BadLines.{IsBadAt}
 use Rattle.netd_session.proofs.Tellings.{error_is, stopped, not_with_input, said_unfailed, write_fault_of}
-use Rattle.netd_session.specs.EndedView.{EndedView}
-use Rattle.netd_session.specs.Ends.{EndsInput, HasBegun, HasEnded, IsSession, StopsWhere, at_input, at_line, before_line, read_failed, read_whole, too_long}
+use Rattle.netd_session.specs.Ends.{EndsInput, HasBegun, IsSession, StopsWhere, at_input, at_line, before_line, read_failed, read_whole, too_long}
 use Rattle.netd_session.specs.Lines.{Goes, IsBad, IsSaid, LeavesLine, Ran, Takes, TellsLine, halt, one_more, says_answer, says_bad}
 use Rattle.netd_session.specs.Progress.{HasCome}
 use Rattle.netd_session.specs.Stops.{End, after_input, ends_with_input, goes_on, status_of}

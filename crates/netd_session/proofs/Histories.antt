@@ -49,7 +49,6 @@ use Rattle.netd_session.specs.Ends.{FailsToStart, HasBegun, HasEnded, HasRun, at
 use Rattle.netd_session.specs.History.{Part, asked_of, behind, left_by, Runs, Follow, AllRunButLast, AreSaid, the_start, a_command, another, Holds, LiesIn, asked, turn_of_part, History, HasHistory}
 use Rattle.netd_session.specs.Lines.{Goes, IsSaid, Ran, no_line, one_more, says_answer, says_bad}
 use Rattle.netd_session.specs.Stops.{End, ends_with_input, status_of}
-use Rattle.netd_session.specs.Telling.{IsTaken, no_memory, sink_failed, taken_whole}
 use Rattle.netd_session.specs.Turns.{Standing}
 use Rattle.netd_session.specs.World.{World}
 use Rattle.netd_session.specs.declared.end.Status.{Status}

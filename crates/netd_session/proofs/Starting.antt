@@ -1,5 +1,5 @@
 -- How a session begins, and how it ends where the start fails.
-use Rattle.std.proofs.Common.{◌≡◌, ◌≢◌, ◌∙◌, ℕ, true, false, List, [], length, take, None, Ok, Err, inl, inr, refl, sym, subst, arith}
+use Rattle.std.proofs.Common.{◌≡◌, ◌≢◌, ◌∙◌, ℕ, true, false, List, [], length, take, None, Err, inr, refl, sym, subst, arith}
 use Rattle.std.proofs.KnownBytes.{Appends-nil, Consumes-nil}
 use Rattle.std.proofs.lemmas.Bool.{false≢true}
 use Rattle.std.specs.Io.KnownBytes.{IsAtEnd}
@@ -16,7 +16,7 @@ use Rattle.policy_state.specs.View.{start}
 use Rattle.turn_text.specs.Texts.{start_halted_text, start_refused_text}
 use Rattle.netd_session.proofs.Tellings.{write_fault_of}
 use Rattle.netd_session.specs.EndedView.{EndedView}
-use Rattle.netd_session.specs.Ends.{FailsToStart, IsSession, StopsWhere, TellsStart, at_start, not_begun, start_halted, start_refused}
+use Rattle.netd_session.specs.Ends.{FailsToStart, IsSession, TellsStart, at_start, not_begun, start_halted, start_refused}
 use Rattle.netd_session.specs.Lines.{no_line}
 use Rattle.netd_session.specs.Progress.{HasCome}
 use Rattle.netd_session.specs.Stops.{End}

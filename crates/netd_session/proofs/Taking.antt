@@ -1,5 +1,5 @@
 -- What taking a line does, where no answer is offered.
-use Rattle.std.proofs.Common.{◌≡◌, ◌∙◌, ℕ, List, [], ◌∷◌, ◌++◌, length, Option, None, Some, Result, Ok, Err, OnOk, OnErr, inl, inr, refl, sym, ap, subst, arith}
+use Rattle.std.proofs.Common.{◌≡◌, ◌∙◌, ℕ, List, [], ◌∷◌, ◌++◌, Option, None, Some, Result, Ok, Err, OnOk, OnErr, inl, inr, refl, sym, ap, subst}
 use Rattle.std.proofs.lemmas.List.{append-nil}
 use Rattle.std.specs.declared.alloc.AllocError.{AllocError}
 use Rattle.kernel_model.specs.View.{state_of}
@@ -20,7 +20,7 @@ use Rattle.net_io.specs.Streams.{SinkView}
 use Rattle.policy_state.specs.View.{link_named}
 use Rattle.turn_text.specs.Texts.{bad_text, numbered}
 use Rattle.netd_session.specs.Answers.{IsAnsweredLine, IsBoundAndTraced, IsMadeAndTraced, IsPacketLine, IsTold, went_text}
-use Rattle.netd_session.specs.Lines.{Answers, Goes, IsBad, Takes, halt_of, says_answer, says_bad}
+use Rattle.netd_session.specs.Lines.{Answers, Takes, halt_of, says_answer, says_bad}
 use Rattle.netd_session.specs.Stops.{End}
 use Rattle.netd_session.specs.Telling.{MakesAndTells, Tells}
 use Rattle.netd_session.specs.Turns.{Standing, turn_of}

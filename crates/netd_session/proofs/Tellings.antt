@@ -1,5 +1,5 @@
 -- What is known of a text that was told, and how the session ends then.
-use Rattle.std.proofs.Common.{◌≡◌, ◌≢◌, ◌∙◌, ℕ, ◌<◌, Bool, false, List, length, take, Option, None, Some, Result, Ok, Err, inl, inr, refl, ap, subst, arith}
+use Rattle.std.proofs.Common.{◌≡◌, ◌≢◌, ◌∙◌, ℕ, ◌<◌, false, List, length, take, Option, None, Some, Result, Ok, Err, inl, inr, refl, ap, subst, arith}
 use Rattle.std.proofs.KnownBytes.{Appends-kept}
 use Rattle.std.specs.Io.KnownBytes.{Appends, Keeps}
 use Rattle.std.specs.Prelude.{IsErrAnd, alloc_error}

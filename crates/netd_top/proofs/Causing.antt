@@ -1,5 +1,5 @@
 -- Why the program ends as it does.
-use Rattle.std.proofs.Common.{◌≡◌, ◌∙◌, ◌⊎◌, ◌↔◌, ℕ, ◌<◌, List, [], length, Ok, Err, inl, inr, refl, sym, ap, subst, arith}
+use Rattle.std.proofs.Common.{◌≡◌, ◌∙◌, ◌⊎◌, ◌↔◌, ℕ, ◌<◌, List, [], length, inl, inr, sym, ap, subst, arith}
 use Rattle.command_words.specs.Forms.{FormView, IsForm, run}
 use Rattle.kernel_model.specs.View.{breaks_of}
 use Rattle.netd_session.proofs.Causing.{caused_session}
