@@ -38,7 +38,8 @@ fn write_line(
     list: &[UidRange],
     out: &mut Vec<u8>,
 ) -> Result<(), AllocError>
-    ensures { Appends out.old out.new result (words_text kinds.now v.now list.now ++ line_feed ∷ []) }
+    ensures { Appends out.old out.new result
+        (words_text kinds.now v.now list.now ++ line_feed ∷ []) }
 {
     write_words(kinds, v, list, out)?;
     append_byte(b'\n', out)

@@ -74,7 +74,8 @@ fn read_list(
     mut words: Words<'_>,
     list: &mut Vec<UidRange>,
 ) -> Result<(), AllocError>
-    ensures { ReadsList (kinds_in kinds.now) (texts (words_left words.entry)) list.old.items list.new.items result }
+    ensures { ReadsList (kinds_in kinds.now) (texts (words_left words.entry))
+        list.old.items list.new.items result }
 {
     for kind in kinds {
         let Some(word) = words.first() else {

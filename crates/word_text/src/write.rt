@@ -86,7 +86,8 @@ pub fn write_value(
     list: &[UidRange],
     out: &mut Vec<u8>,
 ) -> Result<(), AllocError>
-    ensures { Appends out.old out.new result (value_text (kind_of kind) (slot (kind_of kind) v.now list.now)) }
+    ensures { Appends out.old out.new result
+        (value_text (kind_of kind) (slot (kind_of kind) v.now list.now)) }
 {
     match kind {
         Kind::Word(text) => append_bytes(text, out),
