@@ -6,7 +6,8 @@ ghost use Rattle.addr_text.specs.Grammar.{colon};
 pub fn split_at_byte(text: &[u8], byte: u8) -> Option<(&[u8], &[u8])>
     ensures { MatchOption result
         (has_byte byte text.now ≡ false)
-        (λ parts. (text.now ≡ parts.0.now ++ byte ∷ parts.1.now) × (has_byte byte parts.0.now ≡ false)) }
+        (λ parts. (text.now ≡ parts.0.now ++ byte ∷ parts.1.now) ×
+        (has_byte byte parts.0.now ≡ false)) }
 {
     for (place, other) in text.iter().enumerate() {
         if *other == byte {

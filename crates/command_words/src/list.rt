@@ -16,7 +16,8 @@ const MOST_NUMBERS: usize = 1000;
 /// The numbers of a list: rising, separated by commas.
 pub fn read_list(alloc: Global, text: &str) -> Result<Vec<u64>, WordsFault>
     ensures ok { IfOk result (λ numbers. IsList text.now numbers.items) }
-    ensures no_form { result ≡ Err WordsFault.NoForm → (numbers : List ℕ) → IsList text.now numbers → ⊥ }
+    ensures no_form { result ≡ Err WordsFault.NoForm → (numbers : List ℕ) →
+        IsList text.now numbers → ⊥ }
 {
     let mut numbers = Vec::new(alloc);
     let mut last: u64 = 0;
@@ -38,7 +39,8 @@ pub fn read_list(alloc: Global, text: &str) -> Result<Vec<u64>, WordsFault>
 /// The numbers of a list, or none where no list is given.
 pub fn read_list_or_none(alloc: Global, text: Option<&str>) -> Result<Vec<u64>, WordsFault>
     ensures ok { IfOk result (λ numbers. IsListOrNone (option_copied text.entry) numbers.items) }
-    ensures no_form { result ≡ Err WordsFault.NoForm → (numbers : List ℕ) → IsListOrNone (option_copied text.entry) numbers → ⊥ }
+    ensures no_form { result ≡ Err WordsFault.NoForm → (numbers : List ℕ) →
+        IsListOrNone (option_copied text.entry) numbers → ⊥ }
 {
     match text {
         None => Ok(Vec::new(alloc)),

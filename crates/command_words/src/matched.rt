@@ -27,7 +27,8 @@ fn run_by(alloc: Global, refuse: Option<&str>, breaks: Option<&str>) -> Result<F
 }
 
 fn run_in(alloc: Global, inner: &ArgMatches) -> Result<Form, WordsFault>
-    ensures ok { IfOk result (λ form. Says (given_in (rows_of (found_of inner.now))) (view_of form)) }
+    ensures ok { IfOk result (λ form. Says (given_in (rows_of (found_of inner.now)))
+        (view_of form)) }
     ensures no_form { result ≡ Err WordsFault.NoForm →
         (form : FormView) → Says (given_in (rows_of (found_of inner.now))) form → ⊥ }
 {
@@ -36,7 +37,8 @@ fn run_in(alloc: Global, inner: &ArgMatches) -> Result<Form, WordsFault>
 
 /// The form that the matches say.
 pub fn form_in(alloc: Global, matches: &ArgMatches) -> Result<Form, WordsFault>
-    ensures ok { IfOk result (λ form. SaysSome (read_found (subcommand_rows_of matches.now)) (view_of form)) }
+    ensures ok { IfOk result (λ form. SaysSome (read_found (subcommand_rows_of matches.now))
+        (view_of form)) }
     ensures no_form { result ≡ Err WordsFault.NoForm →
         (form : FormView) → SaysSome (read_found (subcommand_rows_of matches.now)) form → ⊥ }
 {

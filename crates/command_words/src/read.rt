@@ -18,7 +18,8 @@ pub fn read_words(alloc: Global, words: &[String]) -> Result<Form, WordsFault>
         (form : FormView) → IsForm (map string_bytes words.now) form → ⊥ }
 
     // such a word is answered without memory, whatever stands around it
-    ensures refused { IsTrue (has_refused (map string_bytes words.now)) → result ≡ Err WordsFault.NoForm }
+    ensures refused { IsTrue (has_refused (map string_bytes words.now)) →
+        result ≡ Err WordsFault.NoForm }
 {
     if has_refused(words) {
         return Err(WordsFault::NoForm);

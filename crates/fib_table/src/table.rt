@@ -19,7 +19,10 @@ impl Model for Table {
 
     ghost Value = { TableView };
 
-    ghost view = { λ t. record { routes = t.routes.items; room = vec_capacity t.routes - vec_len t.routes } };
+    ghost view = { λ t. record {
+      routes = t.routes.items;
+      room = vec_capacity t.routes - vec_len t.routes;
+    } };
 
     ghost invariant = { λ t. IsTrue (are_keys_distinct t.routes.items) };
 }

@@ -19,7 +19,8 @@ impl Flags for MarkFlags {
 
     ghost exact = { ⊤ };
 
-    ghost table = { (codes "EXPLICIT", 0x10000) ∷ (codes "GUARDED", 0x20000) ∷ (codes "BILLED", 0x100000) ∷ [] };
+    ghost table = { (codes "EXPLICIT", 0x10000) ∷ (codes "GUARDED", 0x20000) ∷
+        (codes "BILLED", 0x100000) ∷ [] };
 
     ghost set_of = { λ flags. flags.0 };
 

@@ -38,7 +38,8 @@ impl Mark {
     pub fn bits(&self) -> u32
         ensures word { result ≡ word_of self.now }
         ensures inverse { HasFieldsOf result self.now }
-        ensures no_other { (mark : Mark) → mark.net < 2 ^ 16 → word_of mark ≡ result → mark ≡ self.now }
+        ensures no_other { (mark : Mark) → mark.net < 2 ^ 16 → word_of mark ≡ result →
+            mark ≡ self.now }
     {
         u32::from(self.net)
             + bit_if(MarkFlags::EXPLICIT, self.explicit)

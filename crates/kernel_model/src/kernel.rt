@@ -43,30 +43,41 @@ pub trait Kernel {
     fn add_rule(&mut self, family: Family, rule: &Rule) -> Result<(), KernelFault>
         requires absent { IsTrue (is_absent (state_of (seen self.old)) (req.Rule family rule.now)) }
         requires spare { 0 < (room self.old).spare }
-        ensures grown { seen self.new ≡ grown (seen self.old) (entry (if is_ok result then Added else Refused) (req.Rule family rule.now) ∷ []) }
-        ensures used { room self.new ≡ used (room self.old) (entry (if is_ok result then Added else Refused) (req.Rule family rule.now)) };
+        ensures grown { seen self.new ≡ grown (seen self.old)
+            (entry (if is_ok result then Added else Refused) (req.Rule family rule.now) ∷ []) }
+        ensures used { room self.new ≡ used (room self.old)
+            (entry (if is_ok result then Added else Refused) (req.Rule family rule.now)) };
 
     /// Takes the rule out of the list of its family.
     fn delete_rule(&mut self, family: Family, rule: &Rule) -> Result<(), KernelFault>
-        requires present { IsTrue (is_present (state_of (seen self.old)) (req.Rule family rule.now)) }
+        requires present { IsTrue (is_present (state_of (seen self.old))
+            (req.Rule family rule.now)) }
         requires spare { 0 < (room self.old).spare }
-        ensures grown { seen self.new ≡ grown (seen self.old) (entry (if is_ok result then Deleted else Broken) (req.Rule family rule.now) ∷ []) }
-        ensures used { room self.new ≡ used (room self.old) (entry (if is_ok result then Deleted else Broken) (req.Rule family rule.now)) };
+        ensures grown { seen self.new ≡ grown (seen self.old)
+            (entry (if is_ok result then Deleted else Broken) (req.Rule family rule.now) ∷ []) }
+        ensures used { room self.new ≡ used (room self.old)
+            (entry (if is_ok result then Deleted else Broken) (req.Rule family rule.now)) };
 
     /// Puts the route last in its table, which uses up the room there.
     fn add_route(&mut self, table: u32, route: &Route) -> Result<(), KernelFault>
-        requires absent { IsTrue (is_absent (state_of (seen self.old)) (req.Route table route.now)) }
+        requires absent { IsTrue (is_absent (state_of (seen self.old))
+            (req.Route table route.now)) }
         requires spare { 0 < (room self.old).spare }
         requires ready { (room self.old).ready ≡ Some table }
-        ensures grown { seen self.new ≡ grown (seen self.old) (entry (if is_ok result then Added else Refused) (req.Route table route.now) ∷ []) }
-        ensures used { room self.new ≡ used (room self.old) (entry (if is_ok result then Added else Refused) (req.Route table route.now)) };
+        ensures grown { seen self.new ≡ grown (seen self.old)
+            (entry (if is_ok result then Added else Refused) (req.Route table route.now) ∷ []) }
+        ensures used { room self.new ≡ used (room self.old)
+            (entry (if is_ok result then Added else Refused) (req.Route table route.now)) };
 
     /// Takes the route out of its table.
     fn delete_route(&mut self, table: u32, route: &Route) -> Result<(), KernelFault>
-        requires present { IsTrue (is_present (state_of (seen self.old)) (req.Route table route.now)) }
+        requires present { IsTrue (is_present (state_of (seen self.old))
+            (req.Route table route.now)) }
         requires spare { 0 < (room self.old).spare }
-        ensures grown { seen self.new ≡ grown (seen self.old) (entry (if is_ok result then Deleted else Broken) (req.Route table route.now) ∷ []) }
-        ensures used { room self.new ≡ used (room self.old) (entry (if is_ok result then Deleted else Broken) (req.Route table route.now)) };
+        ensures grown { seen self.new ≡ grown (seen self.old)
+            (entry (if is_ok result then Deleted else Broken) (req.Route table route.now) ∷ []) }
+        ensures used { room self.new ≡ used (room self.old)
+            (entry (if is_ok result then Deleted else Broken) (req.Route table route.now)) };
 
     /// Where the packet goes: unreachable where no rule decides.
     fn walk(&self, packet: &Packet) -> Verdict
@@ -109,7 +120,8 @@ pub trait Armed: Kernel {
     /// over rules and routes together. Takes no memory.
     fn arm(&mut self, refuse: Vec<u64>, breaks: Vec<u64>)
         requires { (Self.seen self.old).journal ≡ [] }
-        ensures seen { Self.seen self.new ≡ record (Self.seen self.old) { lists = Some (record { refuse = refuse.items; breaks = breaks.items }) } }
+        ensures seen { Self.seen self.new ≡ record (Self.seen self.old)
+            { lists = Some (record { refuse = refuse.items; breaks = breaks.items }) } }
         ensures room { Self.room self.new ≡ Self.room self.old };
 
     /// It keeps such lists.
@@ -120,9 +132,12 @@ pub trait Armed: Kernel {
 pub fn ask_add<K: Kernel>(kernel: &mut K, request: &Request) -> Result<(), KernelFault>
     requires absent { IsTrue (is_absent (state_of (K.seen kernel.old)) request.now) }
     requires spare { 0 < (K.room kernel.old).spare }
-    requires ready { (n : ℕ) (route : _) → request.now ≡ req.Route n route → (K.room kernel.old).ready ≡ Some n }
-    ensures grown { K.seen kernel.new ≡ grown (K.seen kernel.old) (entry (if is_ok result then Added else Refused) request.now ∷ []) }
-    ensures used { K.room kernel.new ≡ used (K.room kernel.old) (entry (if is_ok result then Added else Refused) request.now) }
+    requires ready { (n : ℕ) (route : _) → request.now ≡ req.Route n route →
+        (K.room kernel.old).ready ≡ Some n }
+    ensures grown { K.seen kernel.new ≡ grown (K.seen kernel.old)
+        (entry (if is_ok result then Added else Refused) request.now ∷ []) }
+    ensures used { K.room kernel.new ≡ used (K.room kernel.old)
+        (entry (if is_ok result then Added else Refused) request.now) }
 {
     match request {
         Request::Rule { family, rule } => kernel.add_rule(*family, rule),
@@ -134,8 +149,10 @@ pub fn ask_add<K: Kernel>(kernel: &mut K, request: &Request) -> Result<(), Kerne
 pub fn ask_delete<K: Kernel>(kernel: &mut K, request: &Request) -> Result<(), KernelFault>
     requires present { IsTrue (is_present (state_of (K.seen kernel.old)) request.now) }
     requires spare { 0 < (K.room kernel.old).spare }
-    ensures grown { K.seen kernel.new ≡ grown (K.seen kernel.old) (entry (if is_ok result then Deleted else Broken) request.now ∷ []) }
-    ensures used { K.room kernel.new ≡ used (K.room kernel.old) (entry (if is_ok result then Deleted else Broken) request.now) }
+    ensures grown { K.seen kernel.new ≡ grown (K.seen kernel.old)
+        (entry (if is_ok result then Deleted else Broken) request.now ∷ []) }
+    ensures used { K.room kernel.new ≡ used (K.room kernel.old)
+        (entry (if is_ok result then Deleted else Broken) request.now) }
 {
     match request {
         Request::Rule { family, rule } => kernel.delete_rule(*family, rule),

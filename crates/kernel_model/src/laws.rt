@@ -27,24 +27,32 @@ ghost use Rattle.kernel_model.specs.declared.request.Request.{Request};
 /// One switch: along a done segment, and along one that broke before its end, each packet goes by the old rules below
 /// some moment and by the new ones from it on.
 pub fn goes_over()
-    ensures done { (k : KernelState) (old new : List Rule) (gone : List (ℕ × Route)) (packet : Packet) (entries rest : List Entry)
+    ensures done { (k : KernelState) (old new : List Rule) (gone : List (ℕ × Route))
+        (packet : Packet) (entries rest : List Entry)
         → IsSwitch k old new gone → GiveAlike k packet old → GiveAlike k packet new
         → entries ++ rest ≡ done (additions old new) (deletions old new gone)
-        → GoesOver (length entries) (walk_along k packet entries) (walk k packet) (walk (switched k old new gone) packet) }
-    ensures halted { (k : KernelState) (old new : List Rule) (gone : List (ℕ × Route)) (packet : Packet) (entries : List Entry) (i : ℕ) (broken : Request)
+        → GoesOver (length entries) (walk_along k packet entries) (walk k packet)
+        (walk (switched k old new gone) packet) }
+    ensures halted { (k : KernelState) (old new : List Rule) (gone : List (ℕ × Route))
+        (packet : Packet) (entries : List Entry) (i : ℕ) (broken : Request)
         → IsSwitch k old new gone → GiveAlike k packet old → GiveAlike k packet new
-        → slice_get (done (additions old new) (deletions old new gone)) i ≡ Some (entry Deleted broken)
-        → entries ≡ take i (done (additions old new) (deletions old new gone)) ++ entry Broken broken ∷ []
-        → GoesOver (length entries) (walk_along k packet entries) (walk k packet) (walk (switched k old new gone) packet) }
+        → slice_get (done (additions old new) (deletions old new gone)) i ≡
+        Some (entry Deleted broken)
+        → entries ≡ take i (done (additions old new) (deletions old new gone)) ++
+        entry Broken broken ∷ []
+        → GoesOver (length entries) (walk_along k packet entries) (walk k packet)
+        (walk (switched k old new gone) packet) }
 {}
 
 /// Over and back: along any segment each packet goes by the old rules, by the new ones from some moment on, and by the
 /// old ones again from some moment on.
 pub fn goes_over_and_back()
-    ensures { (k : KernelState) (old new : List Rule) (gone : List (ℕ × Route)) (packet : Packet) (entries : List Entry)
+    ensures { (k : KernelState) (old new : List Rule) (gone : List (ℕ × Route)) (packet : Packet)
+        (entries : List Entry)
         → IsSwitch k old new gone → GiveAlike k packet old → GiveAlike k packet new
         → IsSegment (additions old new) (deletions old new gone) entries
-        → GoesOverAndBack (length entries) (walk_along k packet entries) (walk k packet) (walk (switched k old new gone) packet) }
+        → GoesOverAndBack (length entries) (walk_along k packet entries) (walk k packet)
+        (walk (switched k old new gone) packet) }
 {}
 
 /// The end of a done segment stands for the new rules and the routes that are left, and the end of an undone one is the
@@ -53,12 +61,14 @@ pub fn ends()
     ensures done { (k : KernelState) (old new : List Rule) (routes gone left : List (ℕ × Route))
         → IsSwitch k old new gone → Stands k old routes → LosesRoutes routes gone left
         → Stands (switched k old new gone) new left }
-    ensures undone { (k : KernelState) (old new : List Rule) (gone : List (ℕ × Route)) (i : ℕ) (refused : Request)
+    ensures undone { (k : KernelState) (old new : List Rule) (gone : List (ℕ × Route)) (i : ℕ)
+        (refused : Request)
         → IsSwitch k old new gone
         → replay_from k (undone (additions old new) i refused) ≡ k }
 {}
 
 /// The moments of a journal past a length are those of its further entries.
 pub fn moments_go_on()
-    ensures { (journal entries : List Entry) (i : ℕ) → moment (journal ++ entries) (length journal + i) ≡ moment_from (replay journal) entries i }
+    ensures { (journal entries : List Entry) (i : ℕ) →
+        moment (journal ++ entries) (length journal + i) ≡ moment_from (replay journal) entries i }
 {}

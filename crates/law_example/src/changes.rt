@@ -30,8 +30,10 @@ pub fn change(kernel: &mut Kernel, old: &[Rule], new: &[Rule]) -> Result<(), Cha
     requires tables { MayChange old.now new.now }
     requires stands { Stands rule_kind (rules_of kernel.old) old.now }
     ensures done { OnOk result (MovesOver old.now new.now kernel.old kernel.new) }
-    ensures refused { result ≡ Err ChangeError.Refused → ComesBack old.now new.now kernel.old kernel.new }
-    ensures broken { result ≡ Err ChangeError.Broken → StopsBetween old.now new.now kernel.old kernel.new }
+    ensures refused { result ≡ Err ChangeError.Refused →
+        ComesBack old.now new.now kernel.old kernel.new }
+    ensures broken { result ≡ Err ChangeError.Broken →
+        StopsBetween old.now new.now kernel.old kernel.new }
 {
     match add_missing(kernel, old, new) {
         Ok(()) => match delete_missing(kernel, old, new) {
@@ -47,9 +49,11 @@ pub fn change(kernel: &mut Kernel, old: &[Rule], new: &[Rule]) -> Result<(), Cha
 
 // Adds those of the new rules that the old ones lack. An error is the place of the new rule that was refused.
 fn add_missing(kernel: &mut Kernel, old: &[Rule], new: &[Rule]) -> Result<(), usize>
-    ensures ok { OnOk result (kernel.new ≡ kernel.old ++ map Add (beyond rule_kind old.now new.now)) }
+    ensures ok { OnOk result (kernel.new ≡ kernel.old ++
+        map Add (beyond rule_kind old.now new.now)) }
     ensures within { IfErr result (λ place. place ≤ length new.now) }
-    ensures err { IfErr result (λ place. kernel.new ≡ kernel.old ++ map Add (beyond rule_kind old.now (take place new.now))) }
+    ensures err { IfErr result (λ place. kernel.new ≡ kernel.old ++
+        map Add (beyond rule_kind old.now (take place new.now))) }
 {
     for (place, rule) in new.iter().enumerate() {
         match add_if_missing(kernel, old, rule) {
@@ -61,7 +65,8 @@ fn add_missing(kernel: &mut Kernel, old: &[Rule], new: &[Rule]) -> Result<(), us
 }
 
 fn add_if_missing(kernel: &mut Kernel, old: &[Rule], rule: &Rule) -> Result<(), AllocError>
-    ensures ok { OnOk result (kernel.new ≡ kernel.old ++ map Add (beyond rule_kind old.now (rule.now ∷ []))) }
+    ensures ok { OnOk result (kernel.new ≡ kernel.old ++
+        map Add (beyond rule_kind old.now (rule.now ∷ []))) }
     ensures err { OnErr result (kernel.new ≡ kernel.old) }
 {
     if is_in(old, rule) {
@@ -72,9 +77,11 @@ fn add_if_missing(kernel: &mut Kernel, old: &[Rule], rule: &Rule) -> Result<(), 
 
 // Deletes those of the rules that the others lack, the last first.
 fn delete_missing(kernel: &mut Kernel, rules: &[Rule], others: &[Rule]) -> Result<(), AllocError>
-    ensures ok { OnOk result (kernel.new ≡ kernel.old ++ map Delete (reverse (beyond rule_kind others.now rules.now))) }
+    ensures ok { OnOk result (kernel.new ≡ kernel.old ++
+        map Delete (reverse (beyond rule_kind others.now rules.now))) }
     ensures err { OnErr result ((broken : Rule) × (rest : List (Request Rule))
-        × IsPartly (map Delete (reverse (beyond rule_kind others.now rules.now))) (Delete broken ∷ rest) kernel.old kernel.new) }
+        × IsPartly (map Delete (reverse (beyond rule_kind others.now rules.now)))
+        (Delete broken ∷ rest) kernel.old kernel.new) }
 {
     for rule in rules.iter().rev() {
         delete_if_missing(kernel, rule, others)?;
@@ -83,7 +90,8 @@ fn delete_missing(kernel: &mut Kernel, rules: &[Rule], others: &[Rule]) -> Resul
 }
 
 fn delete_if_missing(kernel: &mut Kernel, rule: &Rule, others: &[Rule]) -> Result<(), AllocError>
-    ensures ok { OnOk result (kernel.new ≡ kernel.old ++ map Delete (beyond rule_kind others.now (rule.now ∷ []))) }
+    ensures ok { OnOk result (kernel.new ≡ kernel.old ++
+        map Delete (beyond rule_kind others.now (rule.now ∷ []))) }
     ensures err { OnErr result (kernel.new ≡ kernel.old) }
     ensures missing { OnErr result (has rule_kind others.now rule.now ≡ false) }
 {

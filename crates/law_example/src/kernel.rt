@@ -35,7 +35,8 @@ impl Model for Kernel {
 
     ghost view = { λ kernel. map request_of kernel.journal.items };
 
-    ghost invariant = { λ kernel. kernel.rules.items ≡ rules_of (map request_of kernel.journal.items) };
+    ghost invariant = { λ kernel. kernel.rules.items ≡
+        rules_of (map request_of kernel.journal.items) };
 }
 
 impl Kernel {

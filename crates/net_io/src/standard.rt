@@ -27,7 +27,11 @@ impl<R: Read> StdSource<R> {
 }
 
 impl<R: Read> Source for StdSource<R> {
-    ghost seen = { λ s. record { left = R.remaining s.reader; faults = s.faults; ended = s.ended } };
+    ghost seen = { λ s. record {
+      left = R.remaining s.reader;
+      faults = s.faults;
+      ended = s.ended;
+    } };
 
     fn read(&mut self, room: &mut [u8]) -> Result<usize, Failed> {
         match self.reader.read(room) {

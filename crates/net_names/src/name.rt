@@ -23,11 +23,19 @@ impl Model for Name {
 
     ghost view = { λ name. take name.len name.buffer };
 
-    ghost invariant = { λ name. (length name.buffer ≡ 15) × (name.len ≤ 15) × (is_name (take name.len name.buffer) ≡ true) × (drop name.len name.buffer ≡ replicate (15 - name.len) 0) };
+    ghost invariant = { λ name. (length name.buffer ≡ 15) × (name.len ≤ 15) ×
+        (is_name (take name.len name.buffer) ≡ true) ×
+        (drop name.len name.buffer ≡ replicate (15 - name.len) 0) };
 
-    ghost inverse = { λ bytes. record { buffer = bytes ++ replicate (15 - length bytes) 0; len = length bytes } };
+    ghost inverse = { λ bytes. record {
+      buffer = bytes ++ replicate (15 - length bytes) 0;
+      len = length bytes;
+    } };
 
-    ghost inverse_ok = { λ name h. λ i. record { buffer = (padded_back name.buffer name.len h.0 h.1 h.3).0 i; len = (padded_back name.buffer name.len h.0 h.1 h.3).1 i } };
+    ghost inverse_ok = { λ name h. λ i. record {
+      buffer = (padded_back name.buffer name.len h.0 h.1 h.3).0 i;
+      len = (padded_back name.buffer name.len h.0 h.1 h.3).1 i;
+    } };
 }
 
 impl PartialEq for Name {

@@ -130,7 +130,8 @@ impl LinkRoutes {
 
     /// The list without the link's routes of this one's key, in its order.
     pub fn without(&self, link: u16, key: &Route) -> Result<LinkRoutes, AllocError>
-        ensures { IfOk result (λ routes. routes ≡ filter (λ r. not (is_keyed_by link key.now r)) self.now) }
+        ensures { IfOk result (λ routes. routes ≡
+            filter (λ r. not (is_keyed_by link key.now r)) self.now) }
     {
         let alloc = *self.items.allocator();
         let items = self

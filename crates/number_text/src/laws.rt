@@ -10,14 +10,16 @@ pub fn what_is_written()
 
 /// No other text spells it, so each number has one text.
 pub fn one_text()
-    ensures decimal { (text : List ℕ) (n : ℕ) → n < 2 ^ 64 → SpellsDecimal text n → text ≡ decimal n }
+    ensures decimal { (text : List ℕ) (n : ℕ) → n < 2 ^ 64 → SpellsDecimal text n →
+        text ≡ decimal n }
     ensures hexadecimal { (text : List ℕ) (n : ℕ) → n < 2 ^ 64 → SpellsHexadecimal text n →
         text ≡ hexadecimal n }
 {}
 
 /// No text spells two numbers.
 pub fn one_number()
-    ensures decimal { (text : List ℕ) (m n : ℕ) → SpellsDecimal text m → SpellsDecimal text n → m ≡ n }
+    ensures decimal { (text : List ℕ) (m n : ℕ) → SpellsDecimal text m → SpellsDecimal text n →
+        m ≡ n }
     ensures hexadecimal { (text : List ℕ) (m n : ℕ) → SpellsHexadecimal text m →
         SpellsHexadecimal text n → m ≡ n }
 {}

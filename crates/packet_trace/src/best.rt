@@ -9,7 +9,8 @@ use rule_match::{Action, Packet, Rule};
 
 // Whether the table answers.
 fn answers<K: Kernel>(kernel: &K, table: u32, packet: &Packet) -> bool
-    ensures { result ≡ is_some (answer (routes_of table (state_of (K.seen kernel.now)).tables) packet.now.dest packet.now.outgoing) }
+    ensures { result ≡ is_some (answer (routes_of table (state_of (K.seen kernel.now)).tables)
+        packet.now.dest packet.now.outgoing) }
 {
     match kernel.lookup(table, packet.dest(), packet.outgoing()) {
         None => false,
@@ -19,7 +20,8 @@ fn answers<K: Kernel>(kernel: &K, table: u32, packet: &Packet) -> bool
 
 /// Whether the walk ends at this rule.
 pub fn decides<K: Kernel>(kernel: &K, rule: &Rule, packet: &Packet) -> bool
-    ensures { result ≡ is_some (rule_gives (state_of (K.seen kernel.now)).tables packet.now rule.now) }
+    ensures { result ≡ is_some (rule_gives (state_of (K.seen kernel.now)).tables packet.now
+        rule.now) }
 {
     if !rule.matches(packet) {
         return false;

@@ -49,7 +49,8 @@ impl Trail {
 
 // Puts the rule last, where it matches.
 fn note(steps: &mut Vec<Step>, rule: &Rule, packet: &Packet) -> Result<(), AllocError>
-    ensures { OnOk result (steps.new.items ≡ steps.old.items ++ (if matches rule.now packet.now then step_of rule.now ∷ [] else [])) }
+    ensures { OnOk result (steps.new.items ≡ steps.old.items ++
+        (if matches rule.now packet.now then step_of rule.now ∷ [] else [])) }
 {
     if rule.matches(packet) {
         steps.push(Step {
@@ -68,7 +69,8 @@ fn rule_at<K: Kernel>(kernel: &K, family: Family, place: u64) -> Rule
 }
 
 fn steps_of<K: Kernel>(alloc: Global, kernel: &K, packet: &Packet) -> Result<Vec<Step>, AllocError>
-    ensures { IfOk result (λ steps. steps.items ≡ trail_of (state_of (K.seen kernel.now)) packet.now) }
+    ensures { IfOk result (λ steps. steps.items ≡
+        trail_of (state_of (K.seen kernel.now)) packet.now) }
 {
     let family = packet.family();
     let mut steps = Vec::new(alloc);
@@ -84,8 +86,10 @@ fn steps_of<K: Kernel>(alloc: Global, kernel: &K, packet: &Packet) -> Result<Vec
 
 /// Follows a packet through the kernel's rules.
 pub fn follow<K: Kernel>(alloc: Global, kernel: &K, packet: &Packet) -> Result<Trail, AllocError>
-    ensures steps { IfOk result (λ trail. trail.steps ≡ trail_of (state_of (K.seen kernel.now)) packet.now) }
-    ensures verdict { IfOk result (λ trail. trail.verdict ≡ walk (state_of (K.seen kernel.now)) packet.now) }
+    ensures steps { IfOk result (λ trail. trail.steps ≡
+        trail_of (state_of (K.seen kernel.now)) packet.now) }
+    ensures verdict { IfOk result (λ trail. trail.verdict ≡
+        walk (state_of (K.seen kernel.now)) packet.now) }
 {
     let steps = steps_of(alloc, kernel, packet)?;
     Ok(Trail {

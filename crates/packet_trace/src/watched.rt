@@ -62,14 +62,16 @@ impl<'a, K: Kernel> Watched<'a, K> {
 
     /// After how many requests the verdict differed.
     pub fn seen_count(&self) -> usize
-        ensures { result ≡ length (changes_since self.now.packet self.now.since (K.seen self.now.inner.now).journal) }
+        ensures { result ≡ length (changes_since self.now.packet self.now.since
+            (K.seen self.now.inner.now).journal) }
     {
         self.seen.len()
     }
 
     /// The number of the request at a place, from 0, and the verdict after it.
     pub fn seen_at(&self, place: usize) -> Option<(u64, Verdict)>
-        ensures { result ≡ slice_get (changes_since self.now.packet self.now.since (K.seen self.now.inner.now).journal) place }
+        ensures { result ≡ slice_get (changes_since self.now.packet self.now.since
+            (K.seen self.now.inner.now).journal) place }
     {
         self.seen.get(place).copied()
     }
@@ -193,5 +195,6 @@ impl<'a, K: Kernel> Kernel for Watched<'a, K> {
 
     ghost use Rattle.packet_trace.specs.Seen.{sound_watched};
 
-    ghost sound = { λ w. sound_watched (K.seen w.inner.now) (K.room w.inner.now) w.packet w.since w.inner.ghost_name w.room (K.sound w.inner.now) };
+    ghost sound = { λ w. sound_watched (K.seen w.inner.now) (K.room w.inner.now) w.packet w.since
+        w.inner.ghost_name w.room (K.sound w.inner.now) };
 }

@@ -53,7 +53,10 @@ pub fn carry<K: Kernel>(plan: &Plan, kernel: &mut K) -> Carried
 // Asks for each addition, and answers the place of the one that was refused.
 fn add_all<K: Kernel>(adds: &[Request], kernel: &mut K) -> Option<usize>
     requires { MayAddInTurn (standing (K.seen kernel.old) (K.room kernel.old)) adds.now }
-    ensures { MatchOption result (standing (K.seen kernel.new) (K.room kernel.new) ≡ after (standing (K.seen kernel.old) (K.room kernel.old)) (map (entry Added) adds.now)) (RefusedAt adds.now (standing (K.seen kernel.old) (K.room kernel.old)) (standing (K.seen kernel.new) (K.room kernel.new))) }
+    ensures { MatchOption result (standing (K.seen kernel.new) (K.room kernel.new) ≡
+        after (standing (K.seen kernel.old) (K.room kernel.old)) (map (entry Added) adds.now))
+        (RefusedAt adds.now (standing (K.seen kernel.old) (K.room kernel.old))
+        (standing (K.seen kernel.new) (K.room kernel.new))) }
 {
     for place in 0..adds.len() {
         match ask_add(kernel, nth(adds, false, place)) {
@@ -78,9 +81,13 @@ fn nth(requests: &[Request], backward: bool, place: usize) -> &Request
 
 // Asks for each deletion, and answers the place of the one that broke.
 fn delete_all<K: Kernel>(requests: &[Request], backward: bool, kernel: &mut K) -> Option<usize>
-    requires { MayDeleteInTurn (standing (K.seen kernel.old) (K.room kernel.old)) (ordered backward requests.now) }
-    ensures { MatchOption result (standing (K.seen kernel.new) (K.room kernel.new) ≡ after (standing (K.seen kernel.old) (K.room kernel.old)) (map (entry Deleted) (ordered backward requests.now)))
-        (BrokenAt (ordered backward requests.now) (standing (K.seen kernel.old) (K.room kernel.old)) (standing (K.seen kernel.new) (K.room kernel.new))) }
+    requires { MayDeleteInTurn (standing (K.seen kernel.old) (K.room kernel.old))
+        (ordered backward requests.now) }
+    ensures { MatchOption result (standing (K.seen kernel.new) (K.room kernel.new) ≡
+        after (standing (K.seen kernel.old) (K.room kernel.old))
+        (map (entry Deleted) (ordered backward requests.now)))
+        (BrokenAt (ordered backward requests.now) (standing (K.seen kernel.old) (K.room kernel.old))
+        (standing (K.seen kernel.new) (K.room kernel.new))) }
 {
     for place in 0..requests.len() {
         match ask_delete(kernel, nth(requests, backward, place)) {

@@ -45,7 +45,8 @@ pub fn ask_link(network: &Network, link: u16, packet: &Packet) -> Option<Verdict
 }
 
 fn ask_interfaces(network: &Network, packet: &Packet) -> Option<Verdict>
-    ensures { result ≡ first_of (map (λ link. asks_link network.now link packet.now) network.now.interfaces) }
+    ensures { result ≡ first_of (map (λ link. asks_link network.now link packet.now)
+        network.now.interfaces) }
 {
     for link in network.interfaces.as_slice() {
         let says = ask_link(network, *link, packet);

@@ -19,7 +19,8 @@ pub fn table_means_policy()
 /// Lockdown's promise: what a user other than root sends unprotected while it is locked down leaves by no link.
 #[tactic(auto, unfolding(crate::specs::Policy::policy))]
 pub fn barred_stays_in()
-    ensures { (s : StateView) (p : Packet) → IsBarred s p → p.uid.number ≢ 0 → StaysIn (policy s p) }
+    ensures { (s : StateView) (p : Packet) → IsBarred s p → p.uid.number ≢ 0 →
+        StaysIn (policy s p) }
 {}
 
 /// The starting kernel, which has its own rule alone, sends every packet where the first state's policy says.

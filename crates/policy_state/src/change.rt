@@ -17,7 +17,8 @@ use std::alloc::{AllocError, Global};
 use uid_ranges::{RangeList, UidRange};
 
 fn links_without(alloc: Global, links: &[Link], name: &Name) -> Result<Vec<Link>, AllocError>
-    ensures { IfOk result (λ left. left.items ≡ filter (λ l. not (bytes_eq l.name name.now)) links.now) }
+    ensures { IfOk result (λ left. left.items ≡
+        filter (λ l. not (bytes_eq l.name name.now)) links.now) }
 {
     links
         .iter()
@@ -110,7 +111,8 @@ impl State {
     // The state with this network in the place of the one with its id, or as the last.
     fn with_network(&self, network: Network) -> Result<State, AllocError>
         requires { IsGood (record self.now { networks = put_net network self.now.networks }) }
-        ensures { IfOk result (λ state. state ≡ record self.now { networks = put_net network self.now.networks }) }
+        ensures { IfOk result (λ state. state ≡
+            record self.now { networks = put_net network self.now.networks }) }
     {
         let networks = self.networks().put(network)?;
         self.with_networks(networks)
@@ -131,7 +133,8 @@ impl State {
 
     fn link_added(&self, name: Name, index: u16) -> Result<State, AllocError>
         requires { step.refusal self.now (Command.LinkAdd name index) ≡ None }
-        ensures { IfOk result (λ state. state ≡ step.changed self.now (Command.LinkAdd name index)) }
+        ensures { IfOk result (λ state. state ≡
+            step.changed self.now (Command.LinkAdd name index)) }
     {
         let mut links = Vec::from_slice(self.alloc, self.links())?;
         links.push(Link { name, index })?;
@@ -140,7 +143,8 @@ impl State {
 
     fn link_removed(&self, name: &Name) -> Result<State, AllocError>
         requires { step.refusal self.now (Command.LinkRemove name.now) ≡ None }
-        ensures { IfOk result (λ state. state ≡ step.changed self.now (Command.LinkRemove name.now)) }
+        ensures { IfOk result (λ state. state ≡
+            step.changed self.now (Command.LinkRemove name.now)) }
     {
         let links = links_without(self.alloc, self.links(), name)?;
         self.with_links(links)
@@ -148,7 +152,8 @@ impl State {
 
     fn physical_created(&self, net: u16, permission: Permission) -> Result<State, AllocError>
         requires { step.refusal self.now (Command.CreatePhysical net permission) ≡ None }
-        ensures { IfOk result (λ state. state ≡ step.changed self.now (Command.CreatePhysical net permission)) }
+        ensures { IfOk result (λ state. state ≡
+            step.changed self.now (Command.CreatePhysical net permission)) }
     {
         let network = Network {
             id: net,
@@ -169,7 +174,8 @@ impl State {
 
     fn interface_added(&self, net: u16, name: &Name) -> Result<State, AllocError>
         requires { step.refusal self.now (Command.InterfaceAdd net name.now) ≡ None }
-        ensures { IfOk result (λ state. state ≡ step.changed self.now (Command.InterfaceAdd net name.now)) }
+        ensures { IfOk result (λ state. state ≡
+            step.changed self.now (Command.InterfaceAdd net name.now)) }
     {
         let Some(link) = self.link_named(name) else {
             return self.copy();
@@ -189,7 +195,8 @@ impl State {
         way: Way,
     ) -> Result<State, AllocError>
         requires { step.refusal self.now (Command.RouteAdd net name.now prefix way) ≡ None }
-        ensures { IfOk result (λ state. state ≡ step.changed self.now (Command.RouteAdd net name.now prefix way)) }
+        ensures { IfOk result (λ state. state ≡
+            step.changed self.now (Command.RouteAdd net name.now prefix way)) }
     {
         let Some(link) = self.link_named(name) else {
             return self.copy();
@@ -209,7 +216,8 @@ impl State {
         special: bool,
     ) -> Result<State, AllocError>
         requires { step.refusal self.now (Command.RouteRemove net name.now prefix special) ≡ None }
-        ensures { IfOk result (λ state. state ≡ step.changed self.now (Command.RouteRemove net name.now prefix special)) }
+        ensures { IfOk result (λ state. state ≡
+            step.changed self.now (Command.RouteRemove net name.now prefix special)) }
     {
         let Some(link) = self.link_named(name) else {
             return self.copy();
@@ -223,7 +231,8 @@ impl State {
 
     fn permission_set(&self, net: u16, permission: Permission) -> Result<State, AllocError>
         requires { step.refusal self.now (Command.PermissionNetwork net permission) ≡ None }
-        ensures { IfOk result (λ state. state ≡ step.changed self.now (Command.PermissionNetwork net permission)) }
+        ensures { IfOk result (λ state. state ≡
+            step.changed self.now (Command.PermissionNetwork net permission)) }
     {
         let Some(network) = self.networks().get(net) else {
             return self.copy();
@@ -242,7 +251,8 @@ impl State {
 
     fn lockdown_removed(&self, range: UidRange) -> Result<State, AllocError>
         requires { step.refusal self.now (Command.LockdownRemove range) ≡ None }
-        ensures { IfOk result (λ state. state ≡ step.changed self.now (Command.LockdownRemove range)) }
+        ensures { IfOk result (λ state. state ≡
+            step.changed self.now (Command.LockdownRemove range)) }
     {
         let lockdown = self.lockdown().without(&[range])?;
         self.with_lockdown(lockdown)

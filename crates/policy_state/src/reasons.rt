@@ -44,7 +44,8 @@ fn is_lo(name: &Name) -> bool
 
 impl State {
     fn is_taken(&self, name: &Name, index: u16) -> bool
-        ensures { result ≡ list_any (λ l. bytes_eq l.name name.now || l.index == index) self.now.links }
+        ensures { result ≡ list_any (λ l. bytes_eq l.name name.now || l.index == index)
+            self.now.links }
     {
         self.links
             .iter()
@@ -89,7 +90,8 @@ impl State {
     }
 
     fn create_refusal(&self, net: u16) -> Option<Code>
-        ensures { (permission : Permission) → result ≡ step.refusal self.now (Command.CreatePhysical net permission) }
+        ensures { (permission : Permission) → result ≡
+            step.refusal self.now (Command.CreatePhysical net permission) }
     {
         if net < LEAST_ID {
             return Some(Code::Invalid);
@@ -129,10 +131,12 @@ impl State {
 
     // The network and the link of a route, or why there is none.
     fn route_place(&self, net: u16, name: &Name) -> Result<(&Network, u16), Code>
-        ensures accepted { OnOk result (step.first_that_holds (step.route_reasons self.now net name.now) ≡ None) }
+        ensures accepted { OnOk result (step.first_that_holds
+            (step.route_reasons self.now net name.now) ≡ None) }
         ensures network { IfOk result (λ place. find_id net self.now.networks ≡ Some place.0.now) }
         ensures link { IfOk result (λ place. link_named self.now name.now ≡ Some place.1) }
-        ensures refused { IfErr result (λ code. step.first_that_holds (step.route_reasons self.now net name.now) ≡ Some code) }
+        ensures refused { IfErr result (λ code.
+            step.first_that_holds (step.route_reasons self.now net name.now) ≡ Some code) }
     {
         let Some(network) = self.networks.get(net) else {
             return Err(Code::NoNetwork);
@@ -188,7 +192,8 @@ impl State {
     }
 
     fn permission_refusal(&self, net: u16) -> Option<Code>
-        ensures { (permission : Permission) → result ≡ step.refusal self.now (Command.PermissionNetwork net permission) }
+        ensures { (permission : Permission) → result ≡
+            step.refusal self.now (Command.PermissionNetwork net permission) }
     {
         let Some(network) = self.networks.get(net) else {
             return Some(Code::NoNetwork);

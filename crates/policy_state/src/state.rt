@@ -23,9 +23,17 @@ impl Model for State {
 
     ghost Value = { StateView };
 
-    ghost view = { λ s. record { links = s.links.items; networks = s.networks; lockdown = s.lockdown } };
+    ghost view = { λ s. record {
+      links = s.links.items;
+      networks = s.networks;
+      lockdown = s.lockdown;
+    } };
 
-    ghost invariant = { λ s. IsGood (record { links = s.links.items; networks = s.networks; lockdown = s.lockdown }) };
+    ghost invariant = { λ s. IsGood (record {
+      links = s.links.items;
+      networks = s.networks;
+      lockdown = s.lockdown;
+    }) };
 }
 
 impl State {

@@ -16,7 +16,8 @@ impl State {
         ensures good { IfOk result IsGood }
 
         // with this very code, and exactly where there is one
-        ensures refused { (code : Code) → (result ≡ Err (StepFault.Refused code)) ↔ (refusal self.now command.now ≡ Some code) }
+        ensures refused { (code : Code) → (result ≡ Err (StepFault.Refused code)) ↔
+            (refusal self.now command.now ≡ Some code) }
     {
         if let Some(code) = self.refusal_of(command) {
             return Err(StepFault::Refused { code });

@@ -34,7 +34,10 @@ pub fn best_route(routes: &[Route], dest: Addr, bound: Option<u16>) -> Option<Ro
 /// The function that finds the best route and the relation are one. There is at most one best route, and none exactly
 /// where no route fits.
 pub fn best_laws(routes: &[Route], dest: Addr, bound: Option<u16>)
-    ensures exactly { (r : Route) → (best routes.now dest bound ≡ Some r) ↔ IsBest routes.now dest bound r }
-    ensures one { (r s : Route) → IsBest routes.now dest bound r → IsBest routes.now dest bound s → r ≡ s }
-    ensures none { (best routes.now dest bound ≡ None) ↔ All (λ r. IsFalse (fits r dest bound)) routes.now }
+    ensures exactly { (r : Route) → (best routes.now dest bound ≡ Some r) ↔
+        IsBest routes.now dest bound r }
+    ensures one { (r s : Route) → IsBest routes.now dest bound r → IsBest routes.now dest bound s →
+        r ≡ s }
+    ensures none { (best routes.now dest bound ≡ None) ↔
+        All (λ r. IsFalse (fits r dest bound)) routes.now }
 {}

@@ -91,7 +91,8 @@ pub fn same_route(a: &Route, b: &Route) -> bool
 /// Whether a table may hold only one of the two routes.
 pub fn same_key(a: &Route, b: &Route) -> bool
     ensures value { result ≡ same_key a.now b.now }
-    ensures equal { IsTrue result ↔ ((a.now.prefix ≡ b.now.prefix) × (link_of a.now.out ≡ link_of b.now.out)) }
+    ensures equal { IsTrue result ↔ ((a.now.prefix ≡ b.now.prefix) ×
+        (link_of a.now.out ≡ link_of b.now.out)) }
 {
     same_prefix(&a.prefix, &b.prefix) && same_link(a.out.link(), b.out.link())
 }

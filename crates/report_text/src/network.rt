@@ -31,7 +31,8 @@ fn write_next_name(state: &State, link: u16, out: &mut Vec<u8>) -> Result<(), Al
 }
 
 fn write_next_names(state: &State, links: &[u16], out: &mut Vec<u8>) -> Result<(), AllocError>
-    ensures { Appends out.old out.new result (flat_map (λ link. comma ∷ link_text state.now link) links.now) }
+    ensures { Appends out.old out.new result (flat_map (λ link. comma ∷ link_text state.now link)
+        links.now) }
 {
     for link in links {
         write_next_name(state, *link, out)?;
@@ -67,7 +68,8 @@ fn write_next_range(range: UidRange, out: &mut Vec<u8>) -> Result<(), AllocError
 
 fn write_next_ranges(ranges: &RangeList, out: &mut Vec<u8>) -> Result<(), AllocError>
     ensures { Appends out.old out.new result
-        (flat_map (λ (range : UidRange). comma ∷ range_text range.first range.last) (drop 1 ranges.now)) }
+        (flat_map (λ (range : UidRange). comma ∷ range_text range.first range.last)
+        (drop 1 ranges.now)) }
 {
     for place in 1..ranges.len() {
         write_next_range(range_at(ranges, place), out)?;

@@ -56,7 +56,8 @@ fn write_line(state: &State, route: &Route, out: &mut Vec<u8>) -> Result<(), All
 
 fn route_at<K: Kernel>(kernel: &K, table: u32, place: u64) -> Route
     requires { place < length (routes_of table (state_of (K.seen kernel.now)).tables) }
-    ensures { slice_get (routes_of table (state_of (K.seen kernel.now)).tables) place ≡ Some result }
+    ensures { slice_get (routes_of table (state_of (K.seen kernel.now)).tables) place ≡
+        Some result }
 {
     kernel.route_at(table, place).unwrap()
 }

@@ -29,7 +29,8 @@ fn write_out(
     gateway: Option<Addr>,
     out: &mut Vec<u8>,
 ) -> Result<(), AllocError>
-    ensures text { Appends out.old out.new result (verdict_text state.now (verdict.Out link gateway)) }
+    ensures text { Appends out.old out.new result
+        (verdict_text state.now (verdict.Out link gateway)) }
     ensures room { vec_len out.old + 64 ≤ vec_capacity out.old → IsOk result }
 {
     append_bytes(b"out ", out)?;

@@ -41,7 +41,8 @@ fn common_front(one: &[Rule], other: &[Rule]) -> usize
 fn common_end(one: &[Rule], other: &[Rule]) -> usize
     ensures in_one { result ≤ length one.now }
     ensures in_other { result ≤ length other.now }
-    ensures common { drop (length one.now - result) one.now ≡ drop (length other.now - result) other.now }
+    ensures common { drop (length one.now - result) one.now ≡
+        drop (length other.now - result) other.now }
 {
     let mut end = 0;
     while end < one.len()

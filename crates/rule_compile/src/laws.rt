@@ -30,7 +30,8 @@ use kernel_model::{ends, goes_over_and_back};
 pub fn tables_are_lawful()
     ensures switch { (k : KernelState) (s : StateView) (command : Command) → MayStep k s command
         → IsSwitch k (rule_table s) (rule_table (changed s command)) [] }
-    ensures alike { (k : KernelState) (s : StateView) (packet : Packet) → IsGood s → GiveAlike k packet (rule_table s) }
+    ensures alike { (k : KernelState) (s : StateView) (packet : Packet) → IsGood s →
+        GiveAlike k packet (rule_table s) }
 {}
 
 /// What is asked can be asked: additions are of rules, or one of a route and no other; they are absent, deletions are
@@ -45,34 +46,46 @@ pub fn requests_can_be_asked()
         → AllByRecursion (λ q. is_present k q ≡ true) (asked_deletes s command) }
     ensures distinct { (k : KernelState) (s : StateView) (command : Command) → MayStep k s command
         → Distinct (asked_adds s command ++ asked_deletes s command) }
-    ensures well_formed { (k : KernelState) (s : StateView) (command : Command) → MayStep k s command
-        → AllByRecursion IsWellFormed (asked_adds s command) × AllByRecursion IsWellFormed (asked_deletes s command) }
+    ensures well_formed { (k : KernelState) (s : StateView) (command : Command) →
+        MayStep k s command
+        → AllByRecursion IsWellFormed (asked_adds s command) ×
+        AllByRecursion IsWellFormed (asked_deletes s command) }
 {}
 
 /// The plan law: while a command is carried out each packet goes where it went before, and from some moment on where it
 /// goes when all is done. While one is undone it goes back at some moment.
 pub fn plan_law()
-    ensures done { (k : KernelState) (s : StateView) (command : Command) (packet : Packet) (entries rest : List Entry)
+    ensures done { (k : KernelState) (s : StateView) (command : Command) (packet : Packet)
+        (entries rest : List Entry)
         → MayStep k s command
         → entries ++ rest ≡ done (asked_adds s command) (asked_deletes s command)
-        → GoesOver (length entries) (walk_along k packet entries) (walk k packet) (walk (carried k s command) packet) }
-    ensures halted { (k : KernelState) (s : StateView) (command : Command) (packet : Packet) (entries : List Entry) (i : ℕ) (broken : Request)
+        → GoesOver (length entries) (walk_along k packet entries) (walk k packet)
+        (walk (carried k s command) packet) }
+    ensures halted { (k : KernelState) (s : StateView) (command : Command) (packet : Packet)
+        (entries : List Entry) (i : ℕ) (broken : Request)
         → MayStep k s command
-        → slice_get (done (asked_adds s command) (asked_deletes s command)) i ≡ Some (entry Deleted broken)
-        → entries ≡ take i (done (asked_adds s command) (asked_deletes s command)) ++ entry Broken broken ∷ []
-        → GoesOver (length entries) (walk_along k packet entries) (walk k packet) (walk (carried k s command) packet) }
-    ensures segment { (k : KernelState) (s : StateView) (command : Command) (packet : Packet) (entries : List Entry)
+        → slice_get (done (asked_adds s command) (asked_deletes s command)) i ≡
+        Some (entry Deleted broken)
+        → entries ≡ take i (done (asked_adds s command) (asked_deletes s command)) ++
+        entry Broken broken ∷ []
+        → GoesOver (length entries) (walk_along k packet entries) (walk k packet)
+        (walk (carried k s command) packet) }
+    ensures segment { (k : KernelState) (s : StateView) (command : Command) (packet : Packet)
+        (entries : List Entry)
         → MayStep k s command
         → IsSegment (asked_adds s command) (asked_deletes s command) entries
-        → GoesOverAndBack (length entries) (walk_along k packet entries) (walk k packet) (walk (carried k s command) packet) }
+        → GoesOverAndBack (length entries) (walk_along k packet entries) (walk k packet)
+        (walk (carried k s command) packet) }
 {}
 
 /// Where a command ends: when all is done the kernel stands for the new state, and when it is undone the kernel is the
 /// very one from before.
 pub fn plan_ends()
     ensures done { (k : KernelState) (s : StateView) (command : Command) → MayStep k s command
-        → Stands (carried k s command) (rule_table (changed s command)) (route_list (changed s command)) }
-    ensures undone { (k : KernelState) (s : StateView) (command : Command) (i : ℕ) (refused : Request) → MayStep k s command
+        → Stands (carried k s command) (rule_table (changed s command))
+        (route_list (changed s command)) }
+    ensures undone { (k : KernelState) (s : StateView) (command : Command) (i : ℕ)
+        (refused : Request) → MayStep k s command
         → slice_get (asked_adds s command) i ≡ Some refused
         → replay_from k (undone (asked_adds s command) i refused) ≡ k }
 {}
@@ -83,8 +96,10 @@ pub fn start_law()
     ensures deletes { deletions [] (rule_table start) [] ≡ [] }
     ensures absent { AllByRecursion (λ q. is_absent kernel_start q ≡ true) (twins start_rules) }
     ensures distinct { Distinct (twins start_rules) }
-    ensures segment { (packet : Packet) (entries : List Entry) → IsSegment (twins start_rules) [] entries
-        → GoesOverAndBack (length entries) (walk_along kernel_start packet entries) (walk kernel_start packet) (walk started packet) }
+    ensures segment { (packet : Packet) (entries : List Entry) →
+        IsSegment (twins start_rules) [] entries
+        → GoesOverAndBack (length entries) (walk_along kernel_start packet entries)
+        (walk kernel_start packet) (walk started packet) }
     ensures stands { Stands started (rule_table start) (route_list start) }
 {
     goes_over_and_back();

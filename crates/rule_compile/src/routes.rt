@@ -33,7 +33,8 @@ pub(crate) fn route_that_comes(
     prefix: Prefix,
     way: Way,
 ) -> Result<Vec<Request>, AllocError>
-    ensures { (net : ℕ) → IfOk result (λ requests. requests.items ≡ requests_of (routes_come state.now (RouteAdd net name.now prefix way))) }
+    ensures { (net : ℕ) → IfOk result (λ requests.
+        requests.items ≡ requests_of (routes_come state.now (RouteAdd net name.now prefix way))) }
 {
     let mut requests = Vec::new(alloc);
     if let Some(link) = state.link_named(name) {
@@ -49,7 +50,8 @@ fn requests_by(
     link: u16,
     key: &Route,
 ) -> Result<Vec<Request>, AllocError>
-    ensures { IfOk result (λ requests. requests.items ≡ requests_of (keyed_by link key.now routes.now)) }
+    ensures { IfOk result (λ requests. requests.items ≡
+        requests_of (keyed_by link key.now routes.now)) }
 {
     let mut requests = Vec::new(alloc);
     for route in routes {
@@ -69,7 +71,8 @@ pub(crate) fn route_that_goes(
     prefix: Prefix,
     special: bool,
 ) -> Result<Vec<Request>, AllocError>
-    ensures { IfOk result (λ requests. requests.items ≡ requests_of (routes_gone state.now (RouteRemove net name.now prefix special))) }
+    ensures { IfOk result (λ requests. requests.items ≡
+        requests_of (routes_gone state.now (RouteRemove net name.now prefix special))) }
 {
     let Some(link) = state.link_named(name) else {
         return Ok(Vec::new(alloc));

@@ -52,7 +52,8 @@ ghost use Rattle.rule_law.specs.Parts.{
 pub fn goes_over<R, V>()
     ensures { (k : Kind R) (gives : R → Option V) (none : V)
         (old new rules : List R) (requests rest : List (Request R))
-        → Rises k old → Rises k new → HasEachOnce k old → KeepsOrder k old new → PutsNewBehind k old new
+        → Rises k old → Rises k new → HasEachOnce k old → KeepsOrder k old new →
+        PutsNewBehind k old new
         → GiversAreAlike k gives old → GiversAreAlike k gives new
         → Stands k rules old
         → concerning requests ++ rest ≡ plan k old new
@@ -131,7 +132,8 @@ pub fn asks_in_turn<R>()
         → HasEachOnce k new → Stands k rules old
         → concerning requests ++ rest ≡ plan k old new
         → AskInTurn k requests rules }
-    ensures undone { (k : Kind R) (old new rules : List R) (j : ℕ) (requests rest : List (Request R))
+    ensures undone { (k : Kind R) (old new rules : List R) (j : ℕ)
+        (requests rest : List (Request R))
         → HasEachOnce k new → Stands k rules old
         → concerning requests ++ rest ≡ undone (take j (beyond k old new))
         → AskInTurn k requests rules }
@@ -174,7 +176,8 @@ pub fn rows_come<R>()
 
 /// Rows turn into those of them that pass a test.
 pub fn rows_go<R>()
-    ensures { (k : Kind R) (stays : R → Bool) (rows : List R) → TurnsInto k rows (filter stays rows) }
+    ensures { (k : Kind R) (stays : R → Bool) (rows : List R) →
+        TurnsInto k rows (filter stays rows) }
 {}
 
 /// Rows turn into others with which they have no rule in common.
@@ -211,7 +214,8 @@ pub fn parts_by_key<R, N>()
 /// Parts that are left out are parts without rules.
 pub fn parts_left_out<R, N>()
     ensures { (rows : N → List R) (stays : N → Bool) (parts : List N)
-        → flat_map rows (filter stays parts) ≡ flat_map (λ n. if stays n then rows n else []) parts }
+        → flat_map rows (filter stays parts) ≡
+        flat_map (λ n. if stays n then rows n else []) parts }
 {}
 
 /// The rules of one priority and selectors in a table of parts are those of each part, one part after the other.
@@ -242,6 +246,7 @@ pub fn parts_rise<R, N>()
 /// a giver of the other.
 pub fn givers_side_by_side<R, V>()
     ensures { (k : Kind R) (gives : R → Option V) (rows others : List R)
-        → GiversAreAlike k gives rows → GiversAreAlike k gives others → DoNotMeet k gives rows others
+        → GiversAreAlike k gives rows → GiversAreAlike k gives others →
+        DoNotMeet k gives rows others
         → GiversAreAlike k gives (rows ++ others) }
 {}

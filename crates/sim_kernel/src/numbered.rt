@@ -19,7 +19,11 @@ impl Model for NumberedTable {
 
     ghost Value = { RoomyTable };
 
-    ghost view = { λ t. record { number = t.number; routes = t.table.routes; room = t.table.room } };
+    ghost view = { λ t. record {
+      number = t.number;
+      routes = t.table.routes;
+      room = t.table.room;
+    } };
 }
 
 impl NumberedTable {

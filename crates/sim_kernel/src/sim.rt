@@ -41,7 +41,11 @@ pub struct SimKernel {
     additions: u64,
     deletions: u64,
     spare: u64,
-    ghost consistent: { IsConsistent (record { rules4 = rules4.items; rules6 = rules6.items; tables = tables.tables }) journal.items refuse.items breaks.items additions deletions },
+    ghost consistent: { IsConsistent (record {
+      rules4 = rules4.items;
+      rules6 = rules6.items;
+      tables = tables.tables;
+    }) journal.items refuse.items breaks.items additions deletions },
     ghost journal_room: { vec_len journal + spare ≤ vec_capacity journal },
     ghost rules4_room: { vec_len rules4 + spare ≤ vec_capacity rules4 },
     ghost rules6_room: { vec_len rules6 + spare ≤ vec_capacity rules6 },
@@ -248,7 +252,8 @@ fn given(action: Action, tables: &Tables, packet: &Packet) -> Option<Verdict>
 
 // What a table gives.
 fn answered(tables: &Tables, number: u32, packet: &Packet) -> Option<Verdict>
-    ensures { result ≡ option_map (verdict_by number) (answer (routes_of number tables.now.tables) packet.now.dest packet.now.outgoing) }
+    ensures { result ≡ option_map (verdict_by number)
+        (answer (routes_of number tables.now.tables) packet.now.dest packet.now.outgoing) }
 {
     match tables.lookup(number, packet.dest(), packet.outgoing()) {
         None => None,

@@ -32,7 +32,8 @@ impl Model for Tables {
 
     ghost view = { λ a. record { tables = map table_of a.tables.items; ready = a.ready } };
 
-    ghost invariant = { λ a. ReadyHasRoom a.ready a.tables.items (vec_capacity a.tables - vec_len a.tables) a.fresh };
+    ghost invariant = { λ a. ReadyHasRoom a.ready a.tables.items
+        (vec_capacity a.tables - vec_len a.tables) a.fresh };
 }
 
 /// By the link `lo`.
@@ -87,7 +88,8 @@ fn position_of(tables: &[NumberedTable], number: u32) -> Option<usize>
 
 // The place of a table, if it is there.
 fn find_table(tables: &[NumberedTable], number: u32) -> Option<usize>
-    ensures { MatchOption result (length tables.now ≤ place_of number tables.now) (λ i. (i ≡ place_of number tables.now) × (place_of number tables.now < length tables.now)) }
+    ensures { MatchOption result (length tables.now ≤ place_of number tables.now) (λ i.
+        (i ≡ place_of number tables.now) × (place_of number tables.now < length tables.now)) }
 {
     position_of(tables, number)
 }
@@ -97,7 +99,8 @@ fn add_at(tables: &mut Vec<NumberedTable>, place: usize, route: Route)
     requires within { place < length tables.old.items }
     requires absent { IsFalse (has_key (get_or tables.old.items place empty).routes route) }
     requires room { 0 < (get_or tables.old.items place empty).room }
-    ensures { (w : RoomyTable) × (tables.new.items ≡ set tables.old.items place w) × (w.number ≡ (get_or tables.old.items place empty).number)
+    ensures { (w : RoomyTable) × (tables.new.items ≡ set tables.old.items place w) ×
+        (w.number ≡ (get_or tables.old.items place empty).number)
         × (w.routes ≡ (get_or tables.old.items place empty).routes ++ route ∷ []) }
 {
     let there = &mut tables[place];
@@ -111,9 +114,11 @@ fn add_last(
     number: u32,
     route: Route,
 )
-    requires aside { (t : RoomyTable) × (aside ≡ Some t) × (t.number ≡ number) × (t.routes ≡ []) × (0 < t.room) }
+    requires aside { (t : RoomyTable) × (aside ≡ Some t) × (t.number ≡ number) × (t.routes ≡ []) ×
+        (0 < t.room) }
     requires room { vec_len tables.old < vec_capacity tables.old }
-    ensures { (w : RoomyTable) × (tables.new.items ≡ tables.old.items ++ w ∷ []) × (w.number ≡ number) × (w.routes ≡ route ∷ []) }
+    ensures { (w : RoomyTable) × (tables.new.items ≡ tables.old.items ++ w ∷ []) ×
+        (w.number ≡ number) × (w.routes ≡ route ∷ []) }
 {
     let mut table = aside.unwrap();
     table.add(route);
@@ -124,9 +129,12 @@ fn add_last(
 fn delete_at(tables: &mut Vec<NumberedTable>, place: usize, route: &Route)
     requires within { place < length tables.old.items }
     requires there { IsTrue (has_route (get_or tables.old.items place empty).routes route.now) }
-    ensures cut { (w : RoomyTable) × (tables.new.items ≡ set tables.old.items place w) × (w.number ≡ (get_or tables.old.items place empty).number)
-        × (w.routes ≡ without_route (get_or tables.old.items place empty).routes route.now) × ((get_or tables.old.items place empty).room ≤ w.room) }
-    ensures capacity { vec_capacity tables.new - vec_len tables.new ≡ vec_capacity tables.old - vec_len tables.old }
+    ensures cut { (w : RoomyTable) × (tables.new.items ≡ set tables.old.items place w) ×
+        (w.number ≡ (get_or tables.old.items place empty).number)
+        × (w.routes ≡ without_route (get_or tables.old.items place empty).routes route.now) ×
+        ((get_or tables.old.items place empty).room ≤ w.room) }
+    ensures capacity { vec_capacity tables.new - vec_len tables.new ≡
+        vec_capacity tables.old - vec_len tables.old }
 {
     let there = &mut tables[place];
     there.remove(route);
@@ -136,7 +144,8 @@ fn delete_at(tables: &mut Vec<NumberedTable>, place: usize, route: &Route)
 fn reserve_at(tables: &mut Vec<NumberedTable>, place: usize) -> Result<(), AllocError>
     requires { place < length tables.old.items }
     ensures same { map table_of tables.new.items ≡ map table_of tables.old.items }
-    ensures room { (w : RoomyTable) × (tables.new.items ≡ set tables.old.items place w) × (w.number ≡ (get_or tables.old.items place empty).number)
+    ensures room { (w : RoomyTable) × (tables.new.items ≡ set tables.old.items place w) ×
+        (w.number ≡ (get_or tables.old.items place empty).number)
         × OnOk result (0 < w.room) }
 {
     let there = &mut tables[place];

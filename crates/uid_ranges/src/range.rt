@@ -84,6 +84,7 @@ impl UidRange {
 
     /// Two ranges meet exactly where they share a UID.
     pub fn meets_where_shared(one: UidRange, other: UidRange)
-        ensures { IsTrue (meets one other) ↔ ((uid : ℕ) × IsTrue (holds one uid) × IsTrue (holds other uid)) }
+        ensures { IsTrue (meets one other) ↔ ((uid : ℕ) × IsTrue (holds one uid) ×
+            IsTrue (holds other uid)) }
     {}
 }
