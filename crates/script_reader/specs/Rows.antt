@@ -1,5 +1,5 @@
 -- The forms of lines: the kinds of their words, and the line that values of these say.
-use Rattle.std.specs.Prelude.{ℕ, true, false, List, [], ◌∷◌, codes, None, Some}
+use Rattle.std.specs.Prelude.{true, false, List, [], ◌∷◌, codes, None, Some}
 use Rattle.commands.specs.declared.command.Command.TheVariants as command
 use Rattle.commands.specs.declared.command.Way.TheVariants as way
 use Rattle.prefixes.specs.declared.addr.Family.TheVariants as family
