@@ -20,19 +20,19 @@ use Rattle.route_chains.specs.Chains.{Chained, chain_of, TakesOut}
 use Rattle.fib_trie.specs.declared.branch.Branch.{Branch}
 use Rattle.fib_trie.specs.Branches.{nodes_of}
 use Rattle.fib_trie.specs.Reached.{prefix_at, IsPlaceOf, AreReached, AreFiled}
-use Rattle.fib_trie.specs.Table.{routes_of}
+use Rattle.fib_trie.specs.Chained.{routes_of}
 use Rattle.fib_trie.proofs.Finding.{one_goal, goal_has}
 use Rattle.fib_trie.proofs.Shapes.{Leads-twins, twins_of}
 
 abbrev pub of_prefix : Prefix → List Route → List Route
 of_prefix p routes = filter (λ r. same_prefix r.prefix p) routes
 
-record At (bs : List (Option Branch)) (place : ℕ) (p : Prefix) : Type 0 where
-  branch : Branch
-  stands : held bs place ≡ Some branch
-  prefix : branch.prefix ≡ p
+pub record At (bs : List (Option Branch)) (place : ℕ) (p : Prefix) : Type 0 where
+  pub branch : Branch
+  pub stands : held bs place ≡ Some branch
+  pub prefix : branch.prefix ≡ p
 
-at_of : (bs : List (Option Branch)) (place : ℕ) (p : Prefix) → prefix_at bs place ≡ Some p → At bs place p
+pub at_of : (bs : List (Option Branch)) (place : ℕ) (p : Prefix) → prefix_at bs place ≡ Some p → At bs place p
 at_of bs place p is = of (held bs place) refl is
   where
     of : (o : Option Branch) → held bs place ≡ o → option_map (λ (b : Branch). b.prefix) o ≡ Some p → At bs place p
@@ -172,3 +172,6 @@ filed_rooted bs ds es same filed =
 pub routes_of-push : (es : List Chained) (k : ℕ) (r : Route) → routes_of (es ++ record { chain = k; route = r } ∷ []) ≡ routes_of es ++ r ∷ []
 routes_of-push [] k r = refl
 routes_of-push (e ∷ es) k r = ap (λ l. e.route ∷ l) (routes_of-push es k r)
+
+pub routes_order : (old new : List Chained) (e : Chained) → TakesOut old new e → (rs : List Route) → routes_of old ≡ rs → are_keys_distinct rs ≡ true → routes_of new ≡ without_route rs e.route
+routes_order old new e t rs order distinct = routes_taken old new e t (ap are_keys_distinct order ∙ distinct) ∙ ap (λ l. without_route l e.route) order

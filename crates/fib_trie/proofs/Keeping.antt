@@ -4,7 +4,8 @@ use Rattle.fib_table.specs.Table.{are_keys_distinct}
 use Rattle.fib_search.specs.Trie.{IsTrie}
 use Rattle.fib_trie.specs.Branches.{nodes_of}
 use Rattle.fib_trie.specs.Reached.{AreReached, AreFiled}
-use Rattle.fib_trie.specs.Table.{IsKept, routes_of}
+use Rattle.fib_trie.specs.Chained.{routes_of}
+use Rattle.fib_trie.specs.Table.{IsKept}
 use Rattle.fib_trie.specs.declared.table.TrieTable.TheInside.{Inside}
 
 pub kept_by : (t u : Inside) → IsKept t → u.routes.items ≡ t.routes.items → u.branches.items ≡ t.branches.items → u.chains.entries ≡ t.chains.entries

@@ -1,13 +1,16 @@
 pub mod Adding
 pub mod Between
+pub mod Emptied
 pub mod Filed
 pub mod Finding
 pub mod Joins
 pub mod Keeping
 pub mod Makes
 pub mod Placed
+pub mod Pruning
 pub mod Put
 pub mod Rooting
 pub mod Shapes
 pub mod Splices
 pub mod Stops
+pub mod Uppers

@@ -1,10 +1,10 @@
 -- A table of routes as a trie.
-use Rattle.std.specs.Prelude.{◌≡◌, ℕ, ◌+◌, ◌-◌, ◌*◌, ◌≤◌, IsTrue, List, Option, map, vec_len, vec_capacity}
+use Rattle.std.specs.Prelude.{◌≡◌, ℕ, ◌+◌, ◌-◌, ◌*◌, ◌≤◌, IsTrue, List, Option, vec_len, vec_capacity}
 use Rattle.prefixes.specs.declared.route.Route.{Route}
 use Rattle.fib_table.specs.Table.{are_keys_distinct}
 use Rattle.fib_search.specs.Node.{TrieNode}
 use Rattle.fib_search.specs.Trie.{IsTrie}
-use Rattle.route_chains.specs.Chains.{Chained}
+use Rattle.fib_trie.specs.Chained.{routes_of}
 use Rattle.fib_trie.specs.Branches.{nodes_of}
 use Rattle.fib_trie.specs.Reached.{AreReached, AreFiled}
 use Rattle.fib_trie.specs.declared.table.TrieTable.TheInside.{Inside}
@@ -14,9 +14,6 @@ pub record TrieView : Type 0 where
   -- the number of additions that take no memory
   pub room : ℕ
   pub nodes : List (Option TrieNode)
-
-abbrev pub routes_of : List Chained → List Route
-routes_of entries = map (λ (e : Chained). e.route) entries
 
 pub record IsKept (t : Inside) : Type 0 where
   pub distinct : IsTrue (are_keys_distinct t.routes.items)

@@ -4,6 +4,7 @@
 mod branch;
 mod common;
 mod place;
+mod prune;
 mod reader;
 mod roots;
 mod table;

@@ -255,7 +255,7 @@ fn least(a: u8, b: u8) -> u8
     if a < b { a } else { b }
 }
 
-fn next_of(branch: &Branch, addr: Addr) -> Option<usize>
+pub(crate) fn next_of(branch: &Branch, addr: Addr) -> Option<usize>
     requires { branch.now.prefix.len < width_of addr }
     ensures { result ≡ pick (bit_at addr branch.now.prefix.len) branch.now.zero branch.now.one }
 {

@@ -8,10 +8,11 @@ ghost use Rattle.fib_search.specs.Node.{node_at, view_of};
 ghost use Rattle.fib_search.specs.Trie.{IsTrie};
 ghost use Rattle.fib_trie.specs.Branches.{nodes_of};
 ghost use Rattle.fib_trie.specs.Reached.{AreFiled, AreReached};
-ghost use Rattle.fib_trie.specs.Table.{routes_of};
+ghost use Rattle.fib_trie.specs.Chained.{routes_of};
 
 use crate::branch::Branch;
 use crate::place::{find_place, make_place};
+use crate::prune::prune;
 use crate::reader::NodeReader;
 use crate::roots::ensure_roots;
 use fib_search::{NodeView, lookup_counted};
@@ -53,6 +54,14 @@ fn push_route(routes: &mut Vec<Route>, route: Route)
     ensures capacity { vec_capacity routes.new ≡ vec_capacity routes.old }
 {
     let _ = routes.insert(routes.len(), route);
+}
+
+fn drop_route(routes: &mut Vec<Route>, route: &Route)
+    ensures items { routes.new.items ≡ without_route routes.old.items route.now }
+    ensures len { vec_len routes.new ≤ vec_len routes.old }
+    ensures capacity { vec_capacity routes.old ≤ vec_capacity routes.new }
+{
+    routes.retain(|other| !same_route(other, route));
 }
 
 impl TrieTable {
@@ -148,7 +157,8 @@ impl TrieTable {
             return;
         };
         self.chains.remove(place, route);
-        self.routes.retain(|other| !same_route(other, route));
+        drop_route(&mut self.routes, route);
+        prune(&mut self.branches, &self.chains, route.prefix);
     }
 
     /// The best route for this destination and binding. A throw is given as a route.

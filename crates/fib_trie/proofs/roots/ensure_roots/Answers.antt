@@ -29,4 +29,4 @@ pub returns-then-is_empty-clause-stays : goal.returns-then-is_empty-clause-stays
 returns-then-is_empty-clause-stays c =
     let long : length c.args.branches.now.items ≡ vec_len c.args.branches.now = search rules in
     let bare : vec_len c.args.branches.now ≡ 0 = first_of (search rules, grind (arith, c.if-is_empty.true, c.is_empty.ensures)) in
-    λ some. absurd (some (no_items c.args.branches.now.items (long ∙ bare)))
+    λ some. absurd {A = c.push_held-then-is_empty.new.places.items ≡ c.args.branches.now.items} (some (no_items c.args.branches.now.items (long ∙ bare)))

@@ -4,7 +4,7 @@ use Rattle.fib_search.specs.Node.{first_of}
 use Rattle.fib_search.specs.declared.node.NodeView.{NodeView}
 use Rattle.route_chains.specs.Chains.{chain_of}
 use Rattle.route_chains.proofs.Standing.{held-within}
-use Rattle.fib_trie.specs.Table.{routes_of}
+use Rattle.fib_trie.specs.Chained.{routes_of}
 use Rattle.fib_trie.proofs.Filed.{chain_of-place, find-first_of}
 use Rattle.fib_trie.proofs.Placed.{view_held}
 use Rattle.fib_trie.proofs.table.view_at.Goals as goal

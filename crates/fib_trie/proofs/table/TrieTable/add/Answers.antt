@@ -7,7 +7,8 @@ use Rattle.fib_search.specs.Node.{root_of}
 use Rattle.fib_search.specs.Trie.{IsTrie}
 use Rattle.fib_trie.specs.Branches.{nodes_of}
 use Rattle.fib_trie.specs.Reached.{AreFiled}
-use Rattle.fib_trie.specs.Table.{TrieView, routes_of}
+use Rattle.fib_trie.specs.Chained.{routes_of}
+use Rattle.fib_trie.specs.Table.{TrieView}
 use Rattle.fib_trie.proofs.Adding.{shape, trie_added}
 use Rattle.fib_trie.proofs.Filed.{filed_added, filed_rooted, routes_of-push, place_within}
 use Rattle.fib_trie.proofs.Finding.{goal_has}

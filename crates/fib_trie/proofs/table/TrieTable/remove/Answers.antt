@@ -1,6 +1,5 @@
 use Rattle.std.proofs.Common.{◌≡◌, [], not, ap, ◌∙◌, sym, rules, subst, arith, length, vec_len}
 use Rattle.std.proofs.lemmas.Bool.{both_ways}
-use Rattle.std.proofs.lemmas.Fn.{filter_same}
 use Rattle.std.proofs.lemmas.List.Elements.{All-filter}
 use Rattle.prefixes.specs.Route.{same_route}
 use Rattle.prefixes.specs.Addr.{family_of}
@@ -11,7 +10,7 @@ use Rattle.fib_search.specs.Trie.{Leads, IsTrie}
 use Rattle.fib_trie.specs.Branches.{nodes_of}
 use Rattle.fib_trie.specs.Table.{TrieView}
 use Rattle.fib_trie.proofs.Adding.{shape}
-use Rattle.fib_trie.proofs.Filed.{any_there, route_prefix, none_there, routes_lead, place_within, routes_taken, filed_taken}
+use Rattle.fib_trie.proofs.Filed.{any_there, route_prefix, none_there, routes_lead, place_within, routes_order, filed_taken}
 use Rattle.fib_trie.proofs.Shapes.{restated}
 use Rattle.fib_trie.proofs.table.TrieTable.remove.Goals as goal
 
@@ -38,32 +37,38 @@ returns-in_default-clause-routes c =
     (rw c.deref.ensures.value at c.in_default.ensures) c.self.inside.routes.items (routes_lead c.self.inside.routes.items c.self.inside.branches.items c.self.invariant.trie))
     (ap (λ (v : TrieView). has_route v.routes c.args.route.now) c.self.view_is ∙ c.requires))
 
-kept : (c : goal.After-retain) → c.retain.new.self.items ≡ without_route c.self.inside.routes.items c.args.route.now
-kept c =
-    filter_same _ (λ other. not (same_route other c.args.route.now)) _ (λ x b f' k. search rules)
-    c.self.inside.routes.items c.retain.new.self.items c.retain.ensures.filtered
-
-pub invariant_of-self : goal.invariant_of-self
-invariant_of-self c =
+pub prune-requires-clause-trie : goal.prune-requires-clause-trie
+prune-requires-clause-trie c =
     let routes = c.self.inside.routes.items in
     let branches = c.self.inside.branches.items in
     record {
-      distinct = ap are_keys_distinct (kept c) ∙ are_keys_distinct-filter (λ other. not (same_route other c.args.route.now)) routes c.self.invariant.distinct;
-      trie = subst (λ rs. IsTrie (nodes_of rs branches) rs) (sym (kept c))
+      trie = subst (λ rs. IsTrie (nodes_of rs branches) rs) (sym (routes_order c.self.inside.chains.entries c.remove.new.self.entries _ c.remove.ensures.entries routes c.self.invariant.order c.self.invariant.distinct))
           (restated routes (without_route routes c.args.route.now) branches c.self.invariant.trie
           (All-filter (λ other. not (same_route other c.args.route.now)) (λ r. Leads (nodes_of routes branches) r.prefix (root_of (family_of r.prefix.base))) routes c.self.invariant.trie.found));
       reached = c.self.invariant.reached;
       filed = filed_taken branches c.self.inside.chains.entries c.remove.new.self.entries _ c.remove.ensures.entries c.self.invariant.filed;
-      order =
-          routes_taken c.self.inside.chains.entries c.remove.new.self.entries _ c.remove.ensures.entries (ap are_keys_distinct c.self.invariant.order ∙ c.self.invariant.distinct)
-          ∙ ap (λ rs. without_route rs c.args.route.now) c.self.invariant.order ∙ sym (kept c);
-      route_room = omega (arith, c.retain.ensures.bound, c.retain.ensures.capacity, c.self.invariant.route_room);
+    }
+
+pub prune-requires-clause-chains : goal.prune-requires-clause-chains
+prune-requires-clause-chains c = omega (arith, c.remove.ensures.chains, c.self.invariant.chains)
+
+pub invariant_of-self : goal.invariant_of-self
+invariant_of-self c =
+    let routes = c.self.inside.routes.items in
+    record {
+      distinct = ap are_keys_distinct c.drop_route.ensures.items ∙ are_keys_distinct-filter (λ other. not (same_route other c.args.route.now)) routes c.self.invariant.distinct;
+      trie = subst (λ rs. IsTrie (nodes_of rs c.prune.new.branches.items) rs)
+          (routes_order c.self.inside.chains.entries c.remove.new.self.entries _ c.remove.ensures.entries routes c.self.invariant.order c.self.invariant.distinct ∙ sym c.drop_route.ensures.items) c.prune.ensures.trie.trie;
+      reached = c.prune.ensures.trie.reached;
+      filed = c.prune.ensures.trie.filed;
+      order = routes_order c.self.inside.chains.entries c.remove.new.self.entries _ c.remove.ensures.entries routes c.self.invariant.order c.self.invariant.distinct ∙ sym c.drop_route.ensures.items;
+      route_room = omega (arith, c.drop_route.ensures.len, c.drop_route.ensures.capacity, c.self.invariant.route_room);
       chain_room = omega (arith, c.remove.ensures.room, c.self.invariant.chain_room);
-      node_room = c.self.invariant.node_room;
-      chains = omega (arith, c.remove.ensures.chains, c.self.invariant.chains);
-      root_room = c.self.invariant.root_room;
+      node_room = omega (arith, c.prune.ensures.len, c.prune.ensures.capacity, c.self.invariant.node_room);
+      chains = omega (arith, c.remove.ensures.chains, c.prune.ensures.len, c.self.invariant.chains);
+      root_room = omega (arith, c.prune.ensures.capacity, c.self.invariant.root_room);
       root_chains = omega (arith, c.remove.ensures.chains, c.self.invariant.root_chains);
     }
 
 pub returns-clause-routes : goal.returns-clause-routes
-returns-clause-routes c = kept c ∙ ap (λ (v : TrieView). without_route v.routes c.args.route.now) c.self.view_is
+returns-clause-routes c = c.drop_route.ensures.items ∙ ap (λ (v : TrieView). without_route v.routes c.args.route.now) c.self.view_is
