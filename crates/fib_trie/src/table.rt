@@ -239,7 +239,8 @@ fn view_at(
     requires filed { AreFiled branches.now chains.now.entries }
     requires reached { AreReached branches.now }
     requires chains { length branches.now ≤ chains.now.chains }
-    ensures { result ≡ option_map (view_of bound) (node_at (nodes_of (routes_of chains.now.entries) branches.now) place) }
+    ensures { result ≡ option_map (view_of bound)
+        (node_at (nodes_of (routes_of chains.now.entries) branches.now) place) }
 {
     match held(branches, place) {
         Some(branch) => Some(NodeView {
