@@ -9,6 +9,7 @@ pub mod Makes
 pub mod Placed
 pub mod Pruning
 pub mod Put
+pub mod Rebuilt
 pub mod Rooting
 pub mod Shapes
 pub mod Splices

@@ -1,4 +1,4 @@
-ghost use Rattle.std.specs.Prelude.{◌≡◌, ◌+◌, ◌<◌, ◌≤◌, ◌↔◌, [], ◌∷◌, ◌++◌, Some, length, slice_get, OnOk, IsTrue, IsFalse};
+ghost use Rattle.std.specs.Prelude.{◌≡◌, ◌+◌, ◌<◌, ◌≤◌, ◌↔◌, [], ◌∷◌, ◌++◌, Some, length, slice_get, IfOk, OnOk, IsTrue, IsFalse};
 ghost use Rattle.prefixes.specs.Best.{IsBest, best};
 ghost use Rattle.prefixes.specs.declared.route.Route.{Route};
 ghost use Rattle.fib_table.specs.Table.{has_key, has_route, without_route, are_keys_distinct};
@@ -32,6 +32,8 @@ pub struct TrieTable {
     /// A chain for each place of a node.
     chains: RouteChains,
     spare: usize,
+    /// How many routes were taken out.
+    gone: usize,
 }
 
 impl Model for TrieTable {
@@ -74,11 +76,34 @@ impl TrieTable {
             branches: Vec::new(alloc),
             chains: RouteChains::new(alloc),
             spare: 0,
+            gone: 0,
         }
     }
 
-    /// Makes room for so many routes more. Out of memory leaves the routes as they are.
+    /// Makes room for so many routes more. Out of memory leaves the routes as they are. Where more routes were taken out than
+    /// are there, the table is made anew, without the places of those.
     pub fn reserve(&mut self, more: usize) -> Result<(), AllocError>
+        ensures routes { self.new.routes ≡ self.old.routes }
+        ensures ok { OnOk result (more ≤ self.new.room) }
+        ensures no_less { self.old.room ≤ self.new.room }
+    {
+        if more <= self.spare {
+            return Ok(());
+        }
+        if self.gone <= self.routes.len() {
+            return self.make_room(more);
+        }
+        match rebuilt(*self.routes.allocator(), &self.routes, more) {
+            Ok(table) => {
+                *self = table;
+                Ok(())
+            }
+            Err(err) => Err(err),
+        }
+    }
+
+    // Makes room for so many routes more beside those that are there.
+    fn make_room(&mut self, more: usize) -> Result<(), AllocError>
         ensures routes { self.new.routes ≡ self.old.routes }
         ensures ok { OnOk result (more ≤ self.new.room) }
         ensures no_less { self.old.room ≤ self.new.room }
@@ -159,6 +184,7 @@ impl TrieTable {
         self.chains.remove(place, route);
         drop_route(&mut self.routes, route);
         prune(&mut self.branches, &self.chains, route.prefix);
+        self.gone = self.gone.saturating_add(1);
     }
 
     /// The best route for this destination and binding. A throw is given as a route.
@@ -184,6 +210,26 @@ impl TrieTable {
     }
 }
 
+// A table of the same routes, with room for more.
+fn rebuilt(alloc: Global, routes: &[Route], more: usize) -> Result<TrieTable, AllocError>
+    requires { IsTrue (are_keys_distinct routes.now) }
+    ensures routes { IfOk result (λ table. table.routes ≡ routes.now) }
+    ensures room { IfOk result (λ table. more ≤ table.room) }
+{
+    let Some(all) = routes.len().checked_add(more) else {
+        return Err(AllocError);
+    };
+    let mut table = TrieTable::new(alloc);
+    match table.make_room(all) {
+        Ok(()) => {}
+        Err(err) => return Err(err),
+    }
+    for route in routes {
+        table.add(*route);
+    }
+    Ok(table)
+}
+
 fn view_at(
     branches: &[Option<Branch>],
     chains: &RouteChains,
@@ -193,7 +239,8 @@ fn view_at(
     requires filed { AreFiled branches.now chains.now.entries }
     requires reached { AreReached branches.now }
     requires chains { length branches.now ≤ chains.now.chains }
-    ensures { result ≡ option_map (view_of bound) (node_at (nodes_of (routes_of chains.now.entries) branches.now) place) }
+    ensures { result ≡ option_map (view_of bound)
+        (node_at (nodes_of (routes_of chains.now.entries) branches.now) place) }
 {
     match held(branches, place) {
         Some(branch) => Some(NodeView {

@@ -129,7 +129,8 @@ fn add_slot(
     ensures links { AreLinked slots.new.items }
     ensures heads { AreHeads slots.new.items heads.new.items }
     ensures within { AreWithin slots.new.items (length heads.new.items) }
-    ensures entries { entries_of slots.new.items ≡ entries_of slots.old.items ++ record { chain = chain; route = route } ∷ [] }
+    ensures entries { entries_of slots.new.items
+        ≡ entries_of slots.old.items ++ record { chain = chain; route = route } ∷ [] }
     ensures len { vec_len slots.new ≡ vec_len slots.old + 1 }
     ensures capacity { vec_capacity slots.new ≡ vec_capacity slots.old }
     ensures chains { vec_len heads.new ≡ vec_len heads.old }
@@ -158,11 +159,13 @@ fn cut_slot(
     requires links { AreLinked slots.old.items }
     requires heads { AreHeads slots.old.items heads.old.items }
     requires within { AreWithin slots.old.items (length heads.old.items) }
-    requires has { IsTrue (list_any (λ other. same_route other route) (chain_of chain (entries_of slots.old.items))) }
+    requires has { IsTrue (list_any (λ other. same_route other route)
+        (chain_of chain (entries_of slots.old.items))) }
     ensures links { AreLinked slots.new.items }
     ensures heads { AreHeads slots.new.items heads.new.items }
     ensures within { AreWithin slots.new.items (length heads.new.items) }
-    ensures entries { TakesOut (entries_of slots.old.items) (entries_of slots.new.items) (record { chain = chain; route = route }) }
+    ensures entries { TakesOut (entries_of slots.old.items) (entries_of slots.new.items)
+        (record { chain = chain; route = route }) }
     ensures len { vec_len slots.new ≡ vec_len slots.old }
     ensures capacity { vec_capacity slots.new ≡ vec_capacity slots.old }
     ensures chains { vec_len heads.new ≡ vec_len heads.old }
@@ -219,7 +222,8 @@ impl RouteChains {
     pub fn push(&mut self, chain: usize, route: Route)
         requires there { chain < self.old.chains }
         requires room { 0 < self.old.room }
-        ensures entries { self.new.entries ≡ self.old.entries ++ record { chain = chain; route = route } ∷ [] }
+        ensures entries { self.new.entries
+            ≡ self.old.entries ++ record { chain = chain; route = route } ∷ [] }
         ensures chains { self.new.chains ≡ self.old.chains }
         ensures room { self.new.room + 1 ≡ self.old.room }
     {
@@ -230,8 +234,10 @@ impl RouteChains {
     /// Takes a route out of a chain.
     pub fn remove(&mut self, chain: usize, route: &Route)
         requires there { chain < self.old.chains }
-        requires has { IsTrue (list_any (λ other. same_route other route.now) (chain_of chain self.old.entries)) }
-        ensures entries { TakesOut self.old.entries self.new.entries (record { chain = chain; route = route.now }) }
+        requires has { IsTrue (list_any (λ other. same_route other route.now)
+            (chain_of chain self.old.entries)) }
+        ensures entries { TakesOut self.old.entries self.new.entries
+            (record { chain = chain; route = route.now }) }
         ensures chains { self.new.chains ≡ self.old.chains }
         ensures room { self.new.room ≡ self.old.room }
     {
@@ -241,7 +247,8 @@ impl RouteChains {
     /// The first route of a chain that suits a packet with this binding.
     pub fn first(&self, chain: usize, bound: Option<u16>) -> Option<Route>
         requires { chain < self.now.chains }
-        ensures { result ≡ find (λ r. suits (link_of r.out) bound) (chain_of chain self.now.entries) }
+        ensures { result ≡ find (λ r. suits (link_of r.out) bound)
+            (chain_of chain self.now.entries) }
     {
         let found = search(&self.slots, &self.heads, chain, &Suits { bound });
         route_at(&self.slots, found.at)
@@ -250,7 +257,8 @@ impl RouteChains {
     /// Whether a route of this one's key is in a chain.
     pub fn has_key(&self, chain: usize, route: &Route) -> bool
         requires { chain < self.now.chains }
-        ensures { result ≡ list_any (λ other. same_key other route.now) (chain_of chain self.now.entries) }
+        ensures { result ≡ list_any (λ other. same_key other route.now)
+            (chain_of chain self.now.entries) }
     {
         let found = search(&self.slots, &self.heads, chain, &HasKey { route: *route });
         route_at(&self.slots, found.at).is_some()

@@ -30,7 +30,8 @@ pub fn search<T: Test>(
     requires there { chain < length heads.now }
     requires links { AreLinked slots.now }
     requires heads { AreHeads slots.now heads.now }
-    ensures { IsFound slots.now chain (get_or heads.now chain None) (T.passes test.now) result.before result.at }
+    ensures { IsFound slots.now chain (get_or heads.now chain None) (T.passes test.now)
+        result.before result.at }
 {
     let mut before = None;
     let mut at = head_of(heads, chain);

@@ -1,6 +1,6 @@
 use Rattle.std.proofs.Common.{refl, arith}
 use Rattle.fib_trie.proofs.Keeping.{kept_by}
-use Rattle.fib_trie.proofs.table.TrieTable.reserve.Goals as goal
+use Rattle.fib_trie.proofs.table.TrieTable.make_room.Goals as goal
 
 pub invariant_of-self : goal.invariant_of-self
 invariant_of-self c =
