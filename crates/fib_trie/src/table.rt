@@ -44,7 +44,11 @@ impl Model for TrieTable {
     ghost use Rattle.fib_trie.specs.Branches.{nodes_of};
     ghost use Rattle.fib_trie.specs.Table.{IsKept};
 
-    ghost view = { λ t. record { routes = t.routes.items; room = t.spare; nodes = nodes_of t.routes.items t.branches.items } };
+    ghost view = { λ t. record {
+      routes = t.routes.items;
+      room = t.spare;
+      nodes = nodes_of t.routes.items t.branches.items;
+    } };
 
     ghost invariant = { IsKept };
 }

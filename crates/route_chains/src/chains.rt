@@ -31,7 +31,11 @@ impl Model for RouteChains {
 
     ghost Value = { ChainsView };
 
-    ghost view = { λ t. record { entries = entries_of t.slots.items; chains = vec_len t.heads; room = t.spare } };
+    ghost view = { λ t. record {
+      entries = entries_of t.slots.items;
+      chains = vec_len t.heads;
+      room = t.spare;
+    } };
 
     ghost invariant = { IsKept };
 }
