@@ -1,4 +1,4 @@
--- What tells the families apart, and an address from the length behind it.
+-- What tells the families apart, and an address from the length after it.
 use Rattle.std.proofs.Common.{◌≡◌, ℕ, ◌≤◌, inl, inr, true, false, eqb, List, [], ◌∷◌, sym, ap, ◌∙◌, refl, arith}
 use Rattle.std.specs.Char.{digit_value}
 use Rattle.addr_text.specs.Forms.{has_byte, separator_of, SpellsParts}

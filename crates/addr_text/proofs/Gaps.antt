@@ -80,7 +80,7 @@ after_colon text more x xs spells =
     let head = row_head text x xs spells in
     ap (λ (t : List ℕ). has_gap (58 ∷ (t ++ more))) head.2 ∙ has_gap-colon head.0 (head.1 ++ more) head.3 ∙ ap (λ (t : List ℕ). has_gap (t ++ more)) (sym head.2)
 
--- a row of groups has no gap, nor has it with a colon behind it or before it
+-- a row of groups has no gap, nor has it with a colon after it or before it
 pub row-colon : (text : List ℕ) (xs : List ℕ) → SpellsParts form.Groups text xs → has_gap (text ++ 58 ∷ []) ≡ false
 row-colon text [] spells = ap (λ (t : List ℕ). has_gap (t ++ 58 ∷ [])) spells
 row-colon text (x ∷ []) spells = has_gap-append text (58 ∷ []) (SpellsPart-clean form.Groups 58 text x (omega arith) spells)

@@ -41,7 +41,7 @@ pub SpellsPart-some : (f : Form) (text : List ℕ) (x : ℕ) → SpellsPart f te
 SpellsPart-some form.Octets text x spells = spells.0.numeral.0
 SpellsPart-some form.Groups text x spells = spells.0.0
 
--- the first text, and then each other behind the byte
+-- the first text, and then each other after the byte
 pub row_text-first : (text_of : ℕ → List ℕ) (byte x : ℕ) (xs : List ℕ) → row_text text_of byte (x ∷ xs) ≡ text_of x ++ flat_map (λ (v : ℕ). byte ∷ text_of v) xs
 row_text-first text_of byte x [] = sym (append-nil (text_of x))
 row_text-first text_of byte x (y ∷ ys) = ap (λ (t : List ℕ). text_of x ++ byte ∷ t) (row_text-first text_of byte y ys)

@@ -10,7 +10,7 @@ use Rattle.addr_text.specs.Grammar.{Spells, SpellsPrefix}
 use Rattle.addr_text.proofs.Bytes.{cut_once}
 use Rattle.addr_text.proofs.Families.{no_slash, one_addr}
 
--- what a spelled prefix has before and behind the slash
+-- what a spelled prefix has before and after the slash
 parts : (text base len : List ℕ) (prefix : Prefix) → text ≡ base ++ 47 ∷ len → has_byte 47 base ≡ false → SpellsPrefix text prefix →
     Spells base prefix.base × SpellsDecimal len prefix.len
 parts text base len prefix cut lacks spells =

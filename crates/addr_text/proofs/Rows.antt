@@ -5,7 +5,7 @@ use Rattle.addr_text.specs.declared.form.Form.{Form}
 use Rattle.addr_text.proofs.Bytes.{cut_once, has_byte-here}
 use Rattle.addr_text.proofs.Parts.{separator_of-above, SpellsPart-clean, SpellsPart-one, SpellsPart-some}
 
--- These parts stand in the text, and behind them the rest: what the rest spells goes on with them, and
+-- These parts stand in the text, and after them the rest: what the rest spells goes on with them, and
 -- what the text spells begins with them.
 pub record ReadSoFar (f : Form) (text parts rest : List ℕ) : Type 0 where
   pub to : (x : ℕ) (xs : List ℕ) → SpellsParts f rest (x ∷ xs) → SpellsParts f text (parts ++ x ∷ xs)
@@ -22,7 +22,7 @@ none_read f text some = record { to = λ x xs spells. spells; from = from }
     from [] spells = absurd (omega (arith, ap length spells))
     from (x ∷ xs) spells = (x, xs, refl, spells)
 
--- what stands before the separator is one part, and behind it stand others
+-- what stands before the separator is one part, and after it stand others
 cut_off : (f : Form) (rest first others : List ℕ) (x : ℕ) (xs : List ℕ) → rest ≡ first ++ separator_of f ∷ others → has_byte (separator_of f) first ≡ false →
     SpellsParts f rest (x ∷ xs) → SpellsPart f first x × ((y : ℕ) × (ys : List ℕ) × (xs ≡ y ∷ ys) × SpellsParts f others (y ∷ ys))
 cut_off f rest first others x [] cut lacks spells =

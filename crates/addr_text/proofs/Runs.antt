@@ -29,7 +29,7 @@ zeros_front [] = refl
 zeros_front (zero ∷ groups) = ap (λ (gs : List ℕ). 0 ∷ gs) (zeros_front groups)
 zeros_front (suc g ∷ groups) = refl
 
--- the groups before a run, its zeros, and the groups behind it
+-- the groups before a run, its zeros, and the groups after it
 abbrev pub IsParted : List ℕ → Run → Type 0
 IsParted groups run = groups ≡ take run.start groups ++ (replicate run.len 0 ++ drop (run.start + run.len) groups)
 

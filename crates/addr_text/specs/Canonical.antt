@@ -30,7 +30,7 @@ zeros_of [] = 0
 zeros_of (zero ∷ groups) = suc (zeros_of groups)
 zeros_of (suc group ∷ groups) = 0
 
--- the longer of a run at the front and one behind the first group, the former where they are equally long
+-- the longer of a run at the front and one after the first group, the former where they are equally long
 abbrev pub longer_run : ℕ → Run → Run
 longer_run zeros other = if nat_le other.len zeros
     then record { start = 0; len = zeros }

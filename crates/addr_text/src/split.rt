@@ -2,7 +2,7 @@ ghost use Rattle.std.specs.Prelude.{◌≡◌, ◌∷◌, ◌++◌, List, ℕ, f
 ghost use Rattle.addr_text.specs.Forms.{has_byte};
 ghost use Rattle.addr_text.specs.Grammar.{colon};
 
-/// What stands before and behind the first such byte.
+/// What stands before and after the first such byte.
 pub fn split_at_byte(text: &[u8], byte: u8) -> Option<(&[u8], &[u8])>
     ensures { MatchOption result
         (has_byte byte text.now ≡ false)
@@ -17,7 +17,7 @@ pub fn split_at_byte(text: &[u8], byte: u8) -> Option<(&[u8], &[u8])>
     None
 }
 
-/// What stands before and behind two colons side by side.
+/// What stands before and after two colons side by side.
 pub fn split_at_gap(text: &[u8]) -> Option<(&[u8], &[u8])>
     ensures { MatchOption result
         ((left right : List ℕ) → text.now ≡ left ++ colon ∷ colon ∷ right → ⊥)

@@ -26,7 +26,7 @@ abbrev pub RisesFrom : ℕ → List ℕ → Type 0
 RisesFrom last [] = Unit {0}
 RisesFrom last (n ∷ ns) = (last < n) × (n ≤ 4294967295) × RisesFrom n ns
 
--- the numbers are those of the pieces that are left, behind so many numbers of which the last is this one
+-- the numbers are those of the pieces that are left, after so many numbers of which the last is this one
 pub record IsRest (last count : ℕ) (pieces : List Text) (numbers : List ℕ) : Type 0 where
   pub spelled : pieces ≡ map decimal numbers
   pub rises : RisesFrom last numbers

@@ -79,7 +79,7 @@ attached_text w t o e = by (bytes_eq (codes "--refuse") w) (bytes_eq (codes "--b
 
 -- ---- what the walk takes
 
--- the words begin with an option that wasn't given before, and the walk goes on behind it
+-- the words begin with an option that wasn't given before, and the walk goes on after it
 record Turn (g : Given) (ws : List Text) (h : Given) : Type 0 where
   which : Which
   text : Text

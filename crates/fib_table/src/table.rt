@@ -74,7 +74,7 @@ impl Table {
         any_has_key(&self.routes, route)
     }
 
-    /// Makes room for so many routes more. Want of memory leaves the routes as they are.
+    /// Makes room for so many routes more. Running out of memory leaves the routes as they are.
     pub fn reserve(&mut self, more: usize) -> Result<(), AllocError>
         ensures routes { self.new.routes ≡ self.old.routes }
         ensures ok { OnOk result (more ≤ self.new.room) }

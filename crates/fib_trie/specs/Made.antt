@@ -31,7 +31,7 @@ pub record IsBelow (branches : List (Option Branch)) (branch : Branch) (p : Pref
   pub by : pick (bit_at p.base branch.prefix.len) branch.zero branch.one ≡ Some next
   pub stands : held branches next ≡ Some below
 
--- a shorter prefix that both have, and behind which their next bits differ
+-- a shorter prefix that both have, and after which their next bits differ
 pub record IsFork (fork p q : Prefix) : Type 0 where
   pub covers_one : IsTrue (covers fork p.base)
   pub covers_other : IsTrue (covers fork q.base)

@@ -59,7 +59,7 @@ pub deleted_stands : (k : KernelState) (rules : List Rule) (routes routes' : Lis
 deleted_stands k rules routes routes' n r h other listed =
     table_changed k rules routes n (λ rs. without_route rs r) (cut_route n r k.tables) h other (λ m. routes-cut n m r k.tables) routes' listed
 
--- one entry goes over behind it
+-- one entry goes over after it
 one_goes : (k : KernelState) (kind : EntryKind) (q : Request) (p : Packet) → GoesOver 1 (walk_along k p (entry kind q ∷ [])) (walk k p) (walk (act k kind q) p)
 one_goes k kind q p = record {
   switch = 1;

@@ -1,4 +1,4 @@
--- The kernel behind a switch stands for the new rules and the routes that are left.
+-- The kernel after a switch stands for the new rules and the routes that are left.
 use Rattle.std.proofs.Common.{◌≡◌, ℕ, ◌==◌, ◌||◌, Bool, true, false, not, cond, List, [], ◌∷◌, ◌++◌, length, map, filter, refl, sym, ◌∙◌, ap, subst, inl, inr}
 use Rattle.std.specs.Prelude.{◌⊎◌}
 use Rattle.std.specs.Bool.{if◌then◌else◌}

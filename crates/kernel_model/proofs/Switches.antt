@@ -136,7 +136,7 @@ unused_by : (gone : List (ℕ × Route)) (rules : List Rule) (r : Rule) → AreU
 unused_by [] rules r unused there = tt
 unused_by (g ∷ gone) rules r unused there = (not_of (looks_in g.0) rules r unused.0 there, unused_by gone rules r unused.1 there)
 
--- the kernel's own rule in front of the others
+-- the kernel's own rule before the others
 own_unlike : (rules : List Rule) (x y : Rule) → law.NoneBelow rule_kind 1 rules → same_rule x own_rule ≡ true → law.has rule_kind rules y ≡ true → x.priority ≡ y.priority → ⊥
 own_unlike rules x y behind own there level =
     let above : 1 ≤ y.priority = NoneBelow-has rule_kind 1 rules y behind there in
@@ -176,7 +176,7 @@ module _ (k : KernelState) (old new : List Rule) (gone : List (ℕ × Route)) (h
       ∙ ap (λ es. concerning (map (seen f) es)) (sym (done-parts old new (take m gone)))
       ∙ done-seen f old new (take m gone) ∙ sym (own-plan rule_kind own_rule old new h.old_behind h.new_behind)
 
-  -- behind the rules the lists stand for the new ones
+  -- after the rules the lists stand for the new ones
   pub stands_behind : (f : Family) (m : ℕ) → law.Stands rule_kind (rules_of (replay_from k (of_rules old new ++ take m (of_routes gone))) f) (own_rule ∷ new)
   stands_behind f m =
       let es = of_rules old new ++ take m (of_routes gone) in

@@ -4,7 +4,7 @@ use Rattle.kernel_model.specs.State.{KernelState}
 use Rattle.kernel_model.specs.Journal.{replay, replay_from}
 use Rattle.kernel_model.specs.declared.request.Entry.{Entry}
 
--- the kernel behind the first i entries
+-- the kernel after the first i entries
 abbrev pub moment : List Entry → ℕ → KernelState
 moment journal i = replay (take i journal)
 

@@ -1,4 +1,4 @@
--- Bringing a kernel from an old list of rules to a new one, and taking routes out behind the rules.
+-- Bringing a kernel from an old list of rules to a new one, and taking routes out after the rules.
 use Rattle.std.specs.Prelude.{◌≡◌, ℕ, Bool, false, not, List, [], ◌∷◌, ◌++◌, map, reverse, filter}
 use Rattle.std.specs.List.{list_any, AllByRecursion}
 use Rattle.prefixes.specs.declared.addr.Family.{Family}
@@ -50,7 +50,7 @@ looks_in n rule = same_action rule.action (action.Table n)
 abbrev pub AreUnused : List (ℕ × Route) → List Rule → Type 0
 AreUnused gone rules = AllByRecursion (λ (r : ℕ × Route). list_any (looks_in r.0) rules ≡ false) gone
 
--- What is asked of the kernel, of both lists and of the routes: the kernel has the old rules behind its own one, the lists are as the two-lists law asks, and when the routes go no rule looks in their tables any more.
+-- What is asked of the kernel, of both lists and of the routes: the kernel has the old rules after its own one, the lists are as the two-lists law asks, and when the routes go no rule looks in their tables any more.
 pub record IsSwitch (k : KernelState) (old new : List Rule) (gone : List (ℕ × Route)) : Type 0 where
   pub in_family : (f : Family) → law.Stands rule_kind (rules_of k f) (own_rule ∷ old)
   pub old_and_new : AreOldAndNew rule_kind old new

@@ -39,7 +39,7 @@ pub trait Kernel {
         ensures ready { OnOk result ((room self.new).ready ≡ Some table) }
         ensures spare { (room self.new).spare ≡ (room self.old).spare };
 
-    /// Puts the rule into the list of its family, behind the rules whose priority isn't greater.
+    /// Puts the rule into the list of its family, after the rules whose priority isn't greater.
     fn add_rule(&mut self, family: Family, rule: &Rule) -> Result<(), KernelFault>
         requires absent { IsTrue (is_absent (state_of (seen self.old)) (req.Rule family rule.now)) }
         requires spare { 0 < (room self.old).spare }

@@ -43,12 +43,12 @@ AllConcern-plan [] [] = tt
 AllConcern-plan [] (d ∷ ds) = AllConcern-plan [] ds
 AllConcern-plan (r ∷ rs) ds = AllConcern-plan rs ds
 
--- a front of such requests
+-- a prefix of such requests
 front : (made rest : List (Request Rule)) (rs ds : List Rule) → made ++ rest ≡ map Add rs ++ map Delete ds → concerning made ++ rest ≡ map Add rs ++ map Delete ds
 front made rest rs ds c =
     ap (λ es. es ++ rest) (concerning-all made (AllConcern-front made rest (subst AllConcern (sym c) (AllConcern-plan rs ds)))) ∙ c
 
--- what a test leaves of a front is a front of what it leaves
+-- what a test leaves of a prefix is a prefix of what it leaves
 filter-take : (p : Rule → Bool) (n : ℕ) (xs : List Rule) → filter p (take n xs) ≡ take (length (filter p (take n xs))) (filter p xs)
 filter-take p zero xs = refl
 filter-take p (suc n) [] = refl
@@ -58,7 +58,7 @@ filter-take p (suc n) (x ∷ xs) = elim (cases_Bool (p x)) [
 ]
 
 module _ (old new : List Rule) (before behind : List (Request Rule)) (may : MayChange old new) (stands : Stands rule_kind (rules_of before) old) where
-  -- along a front of the plan
+  -- along a prefix of the plan
   in_turn : (made rest : List (Request Rule)) → made ++ rest ≡ plan rule_kind old new → AskInTurn rule_kind made (rules_of before)
   in_turn made rest c =
       asks_done rule_kind old new (rules_of before) made rest may.tables.new_once stands
@@ -99,7 +99,7 @@ module _ (old new : List Rule) (before behind : List (Request Rule)) (may : MayC
     stopped = inl c;
   }
 
-  -- along a front of the undoing, where the first so many of the new rules have been looked at
+  -- along a prefix of the undoing, where the first so many of the new rules have been looked at
   module _ (place : ℕ) where
     additions : List Rule
     additions = beyond rule_kind old (take place new)

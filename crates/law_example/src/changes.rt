@@ -12,13 +12,13 @@ use crate::rule::Rule;
 use std::alloc::AllocError;
 use thiserror::Error;
 
-/// Why a change wasn't carried out. Memory was wanting, and nothing else.
+/// Why a change wasn't carried out. Memory ran out, and nothing else.
 #[derive(Clone, Copy, Debug, PartialEq, Eq, Error)]
 pub enum ChangeError {
-    /// It was wanting for an addition. The rules are those from before.
+    /// It ran out at an addition. The rules are those from before.
     #[error("an addition was refused, and the rules are those from before")]
     Refused,
-    /// It was wanting for a deletion. The kernel stays on the way.
+    /// It ran out at a deletion. The kernel stays on the way.
     #[error("a deletion broke, and the kernel stays on the way")]
     Broken,
 }

@@ -50,7 +50,7 @@ impl Kernel {
         }
     }
 
-    /// Puts a rule in behind the last one whose priority isn't greater. Want of memory changes nothing.
+    /// Puts a rule in after the last one whose priority isn't greater. Running out of memory changes nothing.
     pub fn add(&mut self, rule: &Rule) -> Result<(), AllocError>
         ensures { self.new ≡ (if is_ok result then self.old ++ Add rule.now ∷ [] else self.old) }
     {
@@ -60,7 +60,7 @@ impl Kernel {
         Ok(())
     }
 
-    /// Takes a rule out. Want of memory changes nothing.
+    /// Takes a rule out. Running out of memory changes nothing.
     pub fn delete(&mut self, rule: &Rule) -> Result<(), AllocError>
         ensures { self.new ≡ (if is_ok result then self.old ++ Delete rule.now ∷ [] else self.old) }
     {

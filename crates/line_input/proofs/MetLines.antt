@@ -55,7 +55,7 @@ met_at_end ended given lines held l few =
     subst (λ (b : Bool). AreMet given b lines) (sym l.at_end)
     (subst (λ (ls : List (List ℕ)). AreMet given true ls) (sym l.lines_are) (last_met given l.front l.last l.fed_front l.one_line l.some few))
 
--- one byte past the limit was given, behind lines and a part of one
+-- one byte past the limit was given, after lines and a part of one
 pub met_past_limit : (given : List ℕ) (lines : List (List ℕ)) (line past : List ℕ) → AreFed given lines (line ++ past) → IsOneLine line
     → length line ≤ line_limit → length past ≡ 1 → length given ≡ input_limit + 1 → AreMet given false lines
 met_past_limit given lines line past cut one short single many = record {
@@ -71,7 +71,7 @@ met_past_limit given lines line past cut one short single many = record {
   lines_are = sym (ap (λ (ls : List (List ℕ)). lines ++ ls) (no_last false line short (inl refl)) ∙ append-nil lines);
 }
 
--- a byte in front of bytes that are cut
+-- a byte before bytes that are cut
 pub record Pieces (bytes : List ℕ) : Type 0 where
   pub whole : List (List ℕ)
   pub rest : List ℕ
@@ -115,7 +115,7 @@ pub record Meets (ended : Bool) (given : List ℕ) (before : List (List ℕ)) (t
   pub met : AreMet given ended (before ++ full ∷ behind)
   pub same : (full ≡ text) ⊎ ((line_limit < length text) × (line_limit < length full))
 
--- the pieces of what stands behind lines, with a line more in front
+-- the pieces of what stands after lines, with a line more in front
 meets_fed : (ended : Bool) (given : List ℕ) (before : List (List ℕ)) (text behind : List ℕ) → AreFed given before (fed text ++ behind)
     → IsOneLine text → length given ≤ input_limit → Meets ended given before text
 meets_fed ended given before text behind cut one few =
@@ -231,7 +231,7 @@ met_at_line ended given before text front behind cut one (inr (inr last)) few =
       same = inl refl;
     }
 
--- behind a line that is short enough, the next one is looked for
+-- after a line that is short enough, the next one is looked for
 pub cut_on : (ended : Bool) (given : List ℕ) (lines : List (List ℕ)) (text front behind : List ℕ) → AreFed given lines (front ++ behind)
     → IsOneLine text → IsMetBy ended text front behind → length text ≤ line_limit → IsCut ended given (lines ++ text ∷ []) behind
 cut_on ended given lines text front behind cut one (inl fed_by) short =

@@ -8,7 +8,7 @@ pub record AreFed (given : List ℕ) (lines : List (List ℕ)) (held : List ℕ)
   pub bytes : given ≡ flat_map fed lines ++ held
   pub each : AllByRecursion IsOneLine lines
 
--- the bytes ended behind the last of these lines, which lacks its line feed
+-- the bytes ended after the last of these lines, which lacks its line feed
 pub record AreLast (ended : Bool) (given : List ℕ) (lines : List (List ℕ))
     (held : List ℕ) : Type 0 where
   pub front : List (List ℕ)

@@ -21,7 +21,7 @@ IsOneLine text = list_any (λ byte. byte == line_feed) text ≡ false
 abbrev pub fed : List ℕ → List ℕ
 fed line = line ++ line_feed ∷ []
 
--- what stands behind the last line feed is a line where the input ended behind at least one byte of it, or where it is
+-- what stands after the last line feed is a line where the input ended after at least one byte of it, or where it is
 -- too long for one however it goes on
 abbrev pub last_line : Bool → List ℕ → List (List ℕ)
 last_line ended rest = if (ended && nat_lt 0 (length rest)) || nat_lt line_limit (length rest) then

@@ -45,7 +45,7 @@ Found (Err TooLong) line bytes behind count old new =
     (bytes ≡ line ++ behind) × (length line ≤ line_limit) × (length behind ≡ 1)
     × (count ≡ input_limit + 1) × (new.faults ≡ old.faults) × (new.ended ≡ false)
 
--- Behind the bytes that were held, of so many that were given, the source gave some more. Together they are the line,
+-- After the bytes that were held, of so many that were given, the source gave some more. Together they are the line,
 -- and what is held now.
 pub record Looks (bytes : List ℕ) (count : ℕ) (new : Input) (before after : SourceView)
     (result : Result Met InputFault) : Type 0 where

@@ -71,7 +71,7 @@ still_runs a old before after runs whole other = (λ h. absurd (other h.0 h.1), 
     back (inl broke) = broke_both before after broke whole
     back (inr some) = not_halted old runs some
 
--- behind it the controller runs
+-- after it the controller runs
 keeps_running : (old new : ControllerView) (before after : KernelView) → old.halted ≡ None → new.halted ≡ None → BrokeNone before after
     → IsSome new.halted ↔ (BrokeSome before after ⊎ IsSome old.halted)
 keeps_running old new before after runs goes_on whole = ((λ some. not_halted new goes_on some), back)

@@ -56,7 +56,7 @@ abbrev kind_at : Option Entry → EntryKind
 kind_at (Some e) = e.kind
 kind_at None = Broken
 
--- what stops before a deletion of an undoing has the refusal behind it
+-- what stops before a deletion of an undoing has the refusal after it
 behind_refused : (xs : List Request) (r : Request) (rest tail : List Entry) (at : ℕ) (q : Request) → slice_get (map (entry Added) xs ++ entry Refused r ∷ rest) at ≡ Some (entry Deleted q)
     → 1 ≤ length (filter is_refused (take at (map (entry Added) xs ++ entry Refused r ∷ rest) ++ tail))
 behind_refused [] r rest tail zero q is = absurd (let same : Refused ≡ Deleted = ap kind_at is in cc)

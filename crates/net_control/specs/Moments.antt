@@ -1,4 +1,4 @@
--- Where packets go, at every moment between two requests and behind them.
+-- Where packets go, at every moment between two requests and after them.
 use Rattle.std.specs.Prelude.{◌≡◌, ◌≢◌, ℕ, ◌≤◌, List, length, None, Result, Ok, Err}
 use Rattle.std.specs.declared.alloc.AllocError.{AllocError}
 use Rattle.kernel_model.specs.Switch.{walk_along}

@@ -15,7 +15,7 @@ use Rattle.net_control.specs.declared.controller.StartFault.TheVariants as fault
 abbrev pub start_adds : List Request
 start_adds = twins start_rules
 
--- what an answer says of the kernel before and after; want of memory leaves it as it was
+-- what an answer says of the kernel before and after; out of memory leaves it as it was
 abbrev pub IsStarted : Result ControllerView StartFault → (before after : KernelView) → Type 0
 IsStarted (Ok controller) before after = (after ≡ grown before (done start_adds []))
     × (controller ≡ running start)

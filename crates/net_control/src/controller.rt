@@ -134,7 +134,7 @@ impl Controller {
         ensures answer { IsStarted result (K.seen kernel.old) (K.seen kernel.new) }
         ensures kept { IfOk result (λ controller. IsKept controller (K.seen kernel.new)) }
 
-        // behind it every packet goes where the policy says, and lockdown holds
+        // after it every packet goes where the policy says, and lockdown holds
         ensures sends { IfOk result (λ controller. SendsByPolicy controller (K.seen kernel.new)) }
 
         // each answer by its cause
@@ -232,7 +232,7 @@ impl Controller {
             (K.seen kernel.new) }
         ensures kept { IsKept self.new (K.seen kernel.new) }
 
-        // behind it, unless the controller has halted, every packet goes where the policy says, and lockdown holds
+        // after it, unless the controller has halted, every packet goes where the policy says, and lockdown holds
         ensures sends { SendsByPolicy self.new (K.seen kernel.new) }
 
         // each answer by its cause

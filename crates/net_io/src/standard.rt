@@ -52,7 +52,7 @@ impl<R: Read> Source for StdSource<R> {
     }
 }
 
-/// A writer of std, with a count of its faults. Taking nothing of some bytes is a fault; it never wants memory.
+/// A writer of std, with a count of its faults. Taking nothing of some bytes is a fault; it never runs out of memory.
 #[derive(Drop)]
 pub struct StdSink<W> {
     writer: W,

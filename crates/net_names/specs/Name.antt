@@ -13,7 +13,7 @@ is_name_byte byte = is_ascii_alphanumeric byte || list_any (λ mark. byte == mar
 abbrev pub is_name : List ℕ → Bool
 is_name bytes = nat_le 1 (length bytes) && nat_le (length bytes) 15 && list_all is_name_byte bytes
 
--- a buffer of 15 bytes with zeros behind its first bytes is given back by those
+-- a buffer of 15 bytes with zeros after its first bytes is given back by those
 pub padded_back : (buffer : List ℕ) (len : ℕ) → length buffer ≡ 15 → len ≤ 15 → drop len buffer ≡ replicate (15 - len) 0
     → (take len buffer ++ replicate (15 - length (take len buffer)) 0 ≡ buffer) × (length (take len buffer) ≡ len)
 padded_back buffer len whole fits zeros =

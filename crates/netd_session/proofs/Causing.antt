@@ -102,7 +102,7 @@ mismatch (q ∷ adds) (suc k) next refused behind more there same = mismatch add
         → map (entry Added) (take k adds) ++ entry Refused refused ∷ behind ≡ map (entry Added) adds ++ more
     tails e = cc
 
--- a start that was done, whatever came behind it, was not refused
+-- a start that was done, whatever came after it, was not refused
 not_refused : (before begun after : KernelView) → begun ≡ grown before (done start_adds []) → HasGrown begun after → RefusedStart before after → ⊥
 not_refused before begun after done_is (entries, grew) (request, (k, undone_entries, undone_at, refused, number)) =
     mismatch start_adds k undone_at.refused undone_at.refused _ ([] ++ entries) undone_at.next

@@ -48,7 +48,7 @@ impl Links {
         self.items.as_slice()
     }
 
-    /// The list with this link behind it.
+    /// The list with this link after it.
     pub fn with(&self, link: u16) -> Result<Links, AllocError>
         ensures { IfOk result (λ links. links ≡ self.now ++ link ∷ []) }
     {
@@ -118,7 +118,7 @@ impl LinkRoutes {
         self.items.as_slice()
     }
 
-    /// The list with this route behind it.
+    /// The list with this route after it.
     pub fn with(&self, route: LinkRoute) -> Result<LinkRoutes, AllocError>
         ensures { IfOk result (λ routes. routes ≡ self.now ++ route ∷ []) }
     {

@@ -107,7 +107,7 @@ after-ge base n (d ∷ ds) some =
     let rest : n * base + digit_value d ≤ digits_value_after base (n * base + digit_value d) ds = after-ge base (n * base + digit_value d) ds some in
     omega arith
 
--- one more digit behind those of a number but 0
+-- one more digit after those of a number but 0
 digits-push : (base n d : ℕ) → 2 ≤ base → base ≤ 16 → 0 < n → digit_value d < base → is_ascii_uppercase d ≡ false → n * base + digit_value d < 2 ^ 64 →
     digits base false (n * base + digit_value d) ≡ digits base false n ++ d ∷ []
 digits-push base n d low high some below lower small =
@@ -121,7 +121,7 @@ digits-push base n d low high some below lower small =
     ∙ ap (λ (r : ℕ). digits base false n ++ digit_glyph false r ∷ []) last
     ∙ ap (λ (x : ℕ). digits base false n ++ x ∷ []) (glyph_of_value d (omega arith) lower)
 
--- further digits behind those of a number but 0
+-- further digits after those of a number but 0
 digits-after : (base n : ℕ) (ds : List ℕ) → 2 ≤ base → base ≤ 16 → 0 < n → AllDigits base ds → list_any is_ascii_uppercase ds ≡ false →
     digits_value_after base n ds < 2 ^ 64 → digits base false (digits_value_after base n ds) ≡ digits base false n ++ ds
 digits-after base n [] low high some all lower small = sym (append-nil (digits base false n))

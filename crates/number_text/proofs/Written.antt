@@ -1,4 +1,4 @@
--- The digits of a number in a base, the last one behind the others.
+-- The digits of a number in a base, the last one after the others.
 use Rattle.std.proofs.Common.{◌≡◌, ℕ, ◌+◌, ◌-◌, ◌*◌, ◌/◌, ◌%◌, ◌^◌, ◌<◌, ◌≤◌, Bool, true, false, cond, eqb, List, [], ◌∷◌, ◌++◌, zero, suc, sym, subst, ◌∙◌, ap, refl, arith, append_assoc, mul-le-mul_left}
 use Rattle.std.proofs.Math.Nat.{pow-suc, pow-zero, div-lt_iff_lt-mul, div-eq_of_lt, mod-eq_of_lt, pow-le-pow_left, lt-mul-div-succ}
 use Rattle.std.specs.Fmt.{digits, digits_onto, digit_glyph}
@@ -9,7 +9,7 @@ onto : (base k n : ℕ) (text : List ℕ) (b : Bool) → eqb (n / base) 0 ≡ b 
     digits_onto (suc k) base false n text ≡ cond b (digit_glyph false (n % base) ∷ text) (digits_onto k base false (n / base) (digit_glyph false (n % base) ∷ text))
 onto base k n text b e = ap (λ (t : Bool). cond t (digit_glyph false (n % base) ∷ text) (digits_onto k base false (n / base) (digit_glyph false (n % base) ∷ text))) e
 
--- what stands behind the digits
+-- what stands after the digits
 pub digits_onto-text : (base k n : ℕ) (text : List ℕ) → digits_onto k base false n text ≡ digits_onto k base false n [] ++ text
 digits_onto-text base zero n text = refl
 digits_onto-text base (suc k) n text = by (eqb (n / base) 0) refl (λ t. digits_onto-text base k (n / base) t)
@@ -69,7 +69,7 @@ digits_one base n small =
     ∙ onto base 0 n [] true (eq-eqb (n / base) 0 (div-eq_of_lt small))
     ∙ ap (λ (d : ℕ). digit_glyph false d ∷ []) (mod-eq_of_lt small)
 
--- the last digit behind the others
+-- the last digit after the others
 pub digits_last : (base n : ℕ) → 2 ≤ base → base ≤ n → n < 2 ^ 64 → digits base false n ≡ digits base false (n / base) ++ (digit_glyph false (n % base) ∷ [])
 unfolding digits
 digits_last base n low large small =

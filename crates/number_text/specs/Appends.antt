@@ -8,7 +8,7 @@ use Rattle.std.specs.declared.alloc.Global.{Global}
 abbrev pub BeginsWith : List ℕ → List ℕ → Type 0
 BeginsWith new old = (rest : List ℕ) × (new ≡ old ++ rest)
 
--- The call wrote the text behind what was there. Only where its bytes don't fit in the free capacity can
+-- The call wrote the text after what was there. Only where its bytes don't fit in the free capacity can
 -- it fail, and what was there stays at the front then too. The capacity never falls.
 pub record Appends {T E : Type 0} (old new : Vec ℕ Global) (result : Result T E) (text : List ℕ) : Type 0 where
   pub written : OnOk result (new.items ≡ old.items ++ text)

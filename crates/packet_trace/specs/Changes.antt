@@ -8,7 +8,7 @@ use Rattle.rule_match.specs.declared.packet.Packet.{Packet}
 use Rattle.rule_match.specs.declared.verdict.Verdict.{Verdict}
 use Rattle.rule_match.specs.Verdict.{same_verdict}
 
--- each number of an entry, behind n of them, after which the walk differs from before it, with the walk
+-- each number of an entry, after n of them, after which the walk differs from before it, with the walk
 abbrev pub changes : Packet → KernelState → ℕ → List Entry → List (ℕ × Verdict)
 changes p k n [] = []
 changes p k n (e ∷ es) =

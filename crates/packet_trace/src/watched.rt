@@ -77,7 +77,7 @@ impl<'a, K: Kernel> Watched<'a, K> {
     }
 }
 
-// Notes the verdict behind the request of this number, where it differs.
+// Notes the verdict after the request of this number, where it differs.
 fn note(
     seen: &mut Vec<(u64, Verdict)>,
     before: Option<Verdict>,

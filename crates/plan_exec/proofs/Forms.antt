@@ -20,7 +20,7 @@ suc-add m n = omega arith
 abbrev with_journal : KernelView → List Entry → KernelView
 with_journal k journal = record k { journal = journal }
 
--- what is seen behind entries
+-- what is seen after entries
 pub seen-after : (k : Standing) (es : List Entry) → (after k es).seen ≡ grown k.seen es
 seen-after k [] = ap (with_journal k.seen) (sym (append-nil k.seen.journal))
 seen-after k (e ∷ es) = seen-after (noted k e) es ∙ ap (with_journal k.seen) (append_assoc k.seen.journal (e ∷ []) es)
@@ -32,11 +32,11 @@ pub spare-after : (k : Standing) (es : List Entry) (n : ℕ) → length es + n �
 spare-after k [] n room = omega (arith, room)
 spare-after k (e ∷ es) n room = spare-after (noted k e) es n (omega (arith, room))
 
--- one entry behind a list of entries
+-- one entry after a list of entries
 noted_last : (k : Standing) (es : List Entry) (e : Entry) → noted (after k es) e ≡ after k (es ++ e ∷ [])
 noted_last k es e = sym (after-append k es (e ∷ []))
 
--- where a list of deletions stops behind others
+-- where a list of deletions stops after others
 stops_at : (front : List Entry) (ds : List Request) (j : ℕ) (q : Request) → slice_get ds j ≡ Some q → slice_get (front ++ map (entry Deleted) ds) (length front + j) ≡ Some (entry Deleted q)
 stops_at [] ds j q h = rw zero-add (at_map ds j h)
   where

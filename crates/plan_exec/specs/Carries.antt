@@ -7,7 +7,7 @@ use Rattle.kernel_model.specs.declared.request.Entry.{Entry}
 use Rattle.plan_exec.specs.declared.Carried.{Carried}
 use Rattle.plan_exec.specs.declared.Carried.TheVariants.{Done, Undone, Halted}
 
--- the form of the entries that an answer tells, behind a journal of n entries
+-- the form of the entries that an answer tells, after a journal of n entries
 abbrev pub IsForm : PlanView → ℕ → Carried → List Entry → Type 0
 IsForm plan n Done entries = entries ≡ done plan.adds plan.deletes
 IsForm plan n (Undone request) entries = (k : ℕ) × IsUndoneAt plan.adds k entries × (request ≡ n + k + 1)

@@ -49,7 +49,7 @@ in_row f (n ∷ ns) x h =
 pub is_only : (r x : Rule) → is_among (r ∷ []) x ≡ true → x ≡ r
 is_only r x h = elim (cases_Bool (same_rule x r)) [ inl here ↦ same_rule-true x r here | inr other ↦ absurd (false≢true (rw other at h)) ]
 
--- the rule is of a row, or it is the one behind the row
+-- the rule is of a row, or it is the one after the row
 pub in_row_or_last : {N : Type 0} (f : N → Rule) (items : List N) (last x : Rule) → is_among (map f items ++ last ∷ []) x ≡ true → InRow f items x ⊎ (x ≡ last)
 in_row_or_last f items last x h =
     elim (cases_Bool (is_among (map f items) x)) [

@@ -24,6 +24,6 @@ ordered s = levels-rise rule_kind priority_of (rules_at s) (level-priority s) le
 pub table-rises : (s : StateView) → Rises rule_kind (rule_table s)
 table-rises s = (ordered s).0
 
--- every rule of a table comes behind the kernel's own
+-- every rule of a table comes after the kernel's own
 pub table-behind_own : (s : StateView) → NoneBelow rule_kind 1 (rule_table s)
 table-behind_own s = (ordered s).1

@@ -11,7 +11,7 @@ use Rattle.prefixes.specs.Best.{IsBest, longer_of, best}
 use Rattle.prefixes.specs.declared.addr.Addr.{Addr}
 use Rattle.prefixes.specs.declared.route.Route.{Route}
 
--- no route behind
+-- no route after
 pub longer_of-none : (o : Option Route) → longer_of o None ≡ o
 longer_of-none None = refl
 longer_of-none (Some r) = refl
@@ -37,7 +37,7 @@ longer_of-assoc (Some r) (Some s) (Some t) =
       ]
     ]
 
--- the best of two lists, one behind the other
+-- the best of two lists, one after the other
 pub best-append : (xs ys : List Route) (dest : Addr) (bound : Option ℕ) → best (xs ++ ys) dest bound ≡ longer_of (best xs dest bound) (best ys dest bound)
 best-append [] ys dest bound = refl
 best-append (x ∷ xs) ys dest bound =

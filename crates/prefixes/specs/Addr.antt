@@ -22,14 +22,14 @@ value_of (addr.V6 value) = value
 abbrev pub IsAddr : Addr → Type 0
 IsAddr a = value_of a < 2 ^ width_of a
 
--- the first bits of an address, and the bits behind them
+-- the first bits of an address, and the bits after them
 abbrev pub first_bits : Addr → ℕ → ℕ
 first_bits a len = value_of a / 2 ^ (width_of a - len)
 
 abbrev pub host_bits : Addr → ℕ → ℕ
 host_bits a len = value_of a % 2 ^ (width_of a - len)
 
--- a prefix has no more bits than its family's addresses, and no bit behind them is set
+-- a prefix has no more bits than its family's addresses, and no bit after them is set
 abbrev pub IsPrefix : Addr → ℕ → Type 0
 IsPrefix base len = (len ≤ width_of base) × (host_bits base len ≡ 0)
 

@@ -38,7 +38,7 @@ fn first_bits(addr: Addr, len: u8) -> u128
 impl Prefix {
     ghost use Rattle.prefixes.specs.Prefix.{covers};
 
-    /// The prefix of this first address and this length; none where a bit behind the length is set.
+    /// The prefix of this first address and this length; none where a bit after the length is set.
     pub fn new(base: Addr, len: u8) -> Option<Prefix>
         ensures exactly { IsSome result ↔ IsPrefix base len }
         ensures value { IfSome result (λ p. (p.base ≡ base) × (p.len ≡ len)) }

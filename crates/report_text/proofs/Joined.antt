@@ -27,7 +27,7 @@ listed-got {X} text_of (y ∷ ys) x at =
     let same : y ≡ x = cc in
     ap (λ (z : X). text_of z ++ flat_map (λ (other : X). comma ∷ text_of other) ys) (sym same) ∙ listed-first text_of y ys
 
--- what stands at a place stands one place before it behind the first
+-- what stands at a place stands one place before it after the first
 pub got-behind : {X : Type 0} (xs : List X) (i : ℕ) (x : X) → 1 ≤ i → slice_get xs i ≡ Some x → slice_get (drop 1 xs) (i - 1) ≡ Some x
 got-behind [] i x first at = cc
 got-behind (y ∷ ys) zero x first at = absurd (omega arith)

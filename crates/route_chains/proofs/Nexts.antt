@@ -33,7 +33,7 @@ module _ (k : ℕ) (xs ys : List (Option Slot)) where
   next_same same from None next = λ m past. same m ∙ next m past
   next_same same from (Some place) next = (next.0, same place ∙ next.1, λ m past before. same m ∙ next.2 m past before)
 
-  -- a slot came at a place behind the others
+  -- a slot came at a place after the others
   pub next_grown : (n : ℕ) → ((m : ℕ) → m < n → is_at k ys m ≡ is_at k xs m) → (from place : ℕ) → place < n → IsNext k xs from (Some place) → IsNext k ys from (Some place)
   next_grown n same from place within next = (next.0, same place within ∙ next.1, λ m past before. same m (omega (arith, before, within)) ∙ next.2 m past before)
 

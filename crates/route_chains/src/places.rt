@@ -28,7 +28,7 @@ pub fn put<T: Copy>(places: &mut Vec<Option<T>>, place: usize, value: Option<T>)
     places[place] = value;
 }
 
-/// Fills a new place behind the others, in the room that is there.
+/// Fills a new place after the others, in the room that is there.
 pub fn push_held<T: Copy>(places: &mut Vec<Option<T>>, value: T)
     requires { vec_len places.old < vec_capacity places.old }
     ensures items { places.new.items ≡ places.old.items ++ Some value ∷ [] }

@@ -1,4 +1,4 @@
--- What a packet meets while a command is carried out, and what the kernel stands for behind it.
+-- What a packet meets while a command is carried out, and what the kernel stands for after it.
 use Rattle.std.proofs.Common.{◌≡◌, ℕ, ◌∷◌, [], List, Some, not, filter, slice_get, refl, sym, ◌∙◌, ap, subst}
 use Rattle.fib_table.specs.Table.{routes_in, has_route}
 use Rattle.prefixes.specs.declared.route.Route.{Route}

@@ -74,7 +74,7 @@ module _ (k : KernelState) (s : StateView) (c : Command) (may : MayStep k s c) w
   abbrev new : List Rule
   new = rule_table (changed s c)
 
-  -- a kernel that stands for a table has the rules of the table behind its own
+  -- a kernel that stands for a table has the rules of the table after its own
   kernel-has : (f : Family) (x : Rule) → same_rule x own_rule ≡ false → has rule_kind (rules_of k f) x ≡ has rule_kind old x
   kernel-has f x other = has-classes rule_kind (rules_of k f) (own_rule ∷ old) (may.stands.in_family f).classes x ∙ rw other refl
 

@@ -1,4 +1,4 @@
--- The difference of two lists is that of what is left without a common front and a common end.
+-- The difference of two lists is that of what is left without a common prefix and a common end.
 use Rattle.std.proofs.Common.{◌≡◌, ◌++◌, [], ℕ, List, Bool, true, false, refl, sym, ◌∙◌, ap, subst, inl, inr, filter, not, take, drop}
 use Rattle.std.proofs.lemmas.Bool.{cases_Bool, false≢true, false_from_ne_true}
 use Rattle.std.proofs.lemmas.List.{append-nil, take-append-drop}
@@ -20,7 +20,7 @@ has-behind xs ys x h = has_append rule_kind x xs ys ∙ rw h refl
 has-end : (xs ys : List Rule) (x : Rule) → has rule_kind ys x ≡ true → has rule_kind (xs ++ ys) x ≡ true
 has-end xs ys x h = elim (cases_Bool (has rule_kind xs x)) [ inl t ↦ has-front xs ys x t | inr t ↦ has-behind xs ys x t ∙ h ]
 
--- what stands in front of both, and at the end of both, isn't lacking, and of the rest nothing else matters
+-- what stands before both, and at the end of both, isn't lacking, and of the rest nothing else matters
 beyond-parts : (front end one other : List Rule) → HasEachOnce rule_kind (front ++ (other ++ end)) → beyond rule_kind (front ++ (one ++ end)) (front ++ (other ++ end)) ≡ beyond rule_kind one other
 beyond-parts front end one other once =
     let lacks : Rule → Bool = λ x. not (has rule_kind (front ++ (one ++ end)) x) in

@@ -104,7 +104,7 @@ module _ (which : Row) where
   abbrev rules_for : List PhysicalLink → List Rule
   rules_for links = filter_map (rule_for which) links
 
-  -- a network that gets one interface more gets its rule behind the others
+  -- a network that gets one interface more gets its rule after the others
   link-comes : (net : ℕ) (permission : Permission) (links : List ℕ) (link : ℕ) → list_any (λ i. i == link) links ≡ false
       → TurnsInto rule_kind (rules_for (map (physical_link net permission) links)) (rules_for (map (physical_link net permission) (links ++ link ∷ [])))
   link-comes net permission links link new =

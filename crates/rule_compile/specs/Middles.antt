@@ -1,4 +1,4 @@
--- What is left of two lists without a common front and a common end.
+-- What is left of two lists without a common prefix and a common end.
 use Rattle.std.specs.Prelude.{◌≡◌, List, ◌++◌}
 use Rattle.rule_match.specs.declared.rule.Rule.{Rule}
 

@@ -15,7 +15,7 @@ abbrev pub Leads : {R : Type 0} → (R → Bool) → Option R → List R → Typ
 Leads s o xs = find s xs ≡ o
 
 module _ {R : Type 0} (k : Kind R) (s : R → Bool) where
-  -- a rule that leads goes on to lead while others are put behind it
+  -- a rule that leads goes on to lead while others are put after it
   pub adding-keeps : (x : R) (rs xs : List R) → Rises k xs → NoneBelow k (k.priority x) rs → find s xs ≡ Some x
       → Along k (Leads s (Some x)) (map Add rs) xs
   adding-keeps x [] xs o f e = e

@@ -50,7 +50,7 @@ module _ {R : Type 0} (k : Kind R) where
   walk-same gives other none (x ∷ xs) h =
       walk-step gives other none x xs (other x) (h x (rw (k.same_self x) refl)) refl (walk-same gives other none xs (λ y t. h y (grind arith)))
 
-  -- a rule of its own that the kernel has in front of all others
+  -- a rule of its own that the kernel has before all others
   module _ (own : R) where
     own-absent : (xs : List R) → NoneBelow k (k.priority own + 1) xs → has k xs own ≡ false
     own-absent xs u = false_from_ne_true (has k xs own) (λ t.

@@ -30,7 +30,7 @@ module _ {R : Type 0} (k : Kind R) where
   pub HasEachOnce-like : (xs ys : List R) → ((rule : R) → class k rule xs ≡ class k rule ys) → HasEachOnce k ys → HasEachOnce k xs
   HasEachOnce-like xs ys h o = HasEachOnce-classes xs (λ rule. subst (λ zs. HasEachOnce k zs) (sym (h rule)) (HasEachOnce-filter k (k.alike rule) ys o))
 
-  -- an addition goes behind its class
+  -- an addition goes after its class
 
   class-none : (rule : R) (n : ℕ) (xs : List R) → k.priority rule < n → NoneBelow k n xs → class k rule xs ≡ []
   class-none rule n [] l f = refl

@@ -11,7 +11,7 @@ use Rattle.rule_law.proofs.Leading.{find-append_none, find-filter, find-without_
 use Rattle.rule_law.proofs.Moments.{Along, Along-end, Along-map, Over, Over-right}
 use Rattle.rule_law.proofs.Adding.{Leads}
 
--- where x is among the rules, those behind it give nothing
+-- where x is among the rules, those after it give nothing
 abbrev pub LastOfAll : {R : Type 0} → Kind R → (R → Bool) → R → List R → Type 0
 LastOfAll k s x [] = Unit {0}
 LastOfAll k s x (d ∷ ds) = ((k.same x d ≡ true) × (find s ds ≡ None)) ⊎ ((k.same x d ≡ false) × LastOfAll k s x ds)

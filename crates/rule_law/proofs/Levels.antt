@@ -12,6 +12,6 @@ module _ {R L : Type 0} (k : Kind R) (priority_of : L → ℕ) (rules_at : L →
   levels-show [] = tt
   levels-show (level ∷ rest) = (at-priority level, levels-show rest)
 
-  -- the table rises, behind all rules of priority 0
+  -- the table rises, after all rules of priority 0
   pub levels-rise : (levels : List L) → KeysRise priority_of 1 levels → Rises k (flat_map rules_at levels) × NoneBelow k 1 (flat_map rules_at levels)
   levels-rise levels rising = Rises-joined k priority_of rules_at 1 levels (levels-show levels) rising (each_rises k priority_of rules_at levels (levels-show levels))

@@ -15,7 +15,7 @@ abbrev pub KeepsOrder : {R : Type 0} → Kind R → List R → List R → Type 0
 KeepsOrder {R = R} k old new =
     (rule : R) → class k rule (common k new old) ≡ class k rule (common k old new)
 
--- What the new table alone has of one priority and selectors stands in it behind what both have of them.
+-- What the new table alone has of one priority and selectors stands in it after what both have of them.
 abbrev pub PutsNewBehind : {R : Type 0} → Kind R → List R → List R → Type 0
 PutsNewBehind {R = R} k old new =
     (rule : R) → class k rule new ≡ class k rule (common k old new) ++ class k rule (beyond k old new)

@@ -19,7 +19,7 @@ pub record Kind (R : Type 0) : Type 0 where
 abbrev pub has : {R : Type 0} → Kind R → List R → R → Bool
 has k rules rule = list_any (k.same rule) rules
 
--- the list with a rule put in, in front of the first one of greater priority
+-- the list with a rule put in, before the first one of greater priority
 abbrev pub placed : {R : Type 0} → Kind R → R → List R → List R
 placed k rule [] = rule ∷ []
 placed k rule (x ∷ xs) = cond (nat_le (k.priority x) (k.priority rule)) (x ∷ placed k rule xs) (rule ∷ x ∷ xs)
@@ -28,7 +28,7 @@ placed k rule (x ∷ xs) = cond (nat_le (k.priority x) (k.priority rule)) (x ∷
 abbrev pub has_not_greater : {R : Type 0} → Kind R → R → List R → Bool
 has_not_greater k rule rules = list_any (λ x. nat_le (k.priority x) (k.priority rule)) rules
 
--- the list with a rule put in, behind the last one whose priority isn't greater
+-- the list with a rule put in, after the last one whose priority isn't greater
 abbrev pub placed_behind : {R : Type 0} → Kind R → R → List R → List R
 placed_behind k rule [] = rule ∷ []
 placed_behind k rule (x ∷ xs) = cond (has_not_greater k rule (x ∷ xs)) (x ∷ placed_behind k rule xs) (rule ∷ x ∷ xs)

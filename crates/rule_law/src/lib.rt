@@ -119,7 +119,7 @@ pub fn stands_tells<R>()
         → Stands k rules table → (rule : R) → has k rules rule ≡ has k table rule }
 {}
 
-/// In a list by rising priority, the place in front of the first rule of greater priority is the one behind the last rule
+/// In a list by rising priority, the place before the first rule of greater priority is the one after the last rule
 /// whose priority isn't greater.
 pub fn placed_is_behind<R>()
     ensures { (k : Kind R) (rule : R) (rules : List R)
@@ -139,7 +139,7 @@ pub fn asks_in_turn<R>()
         → AskInTurn k requests rules }
 {}
 
-/// A kernel may have a rule of its own in front of all others: the tables with it are as the law asks where those without
+/// A kernel may have a rule of its own before all others: the tables with it are as the law asks where those without
 /// it are, and the plan is the same.
 pub fn own_rule<R>()
     ensures tables { (k : Kind R) (own : R) (old new : List R)

@@ -85,7 +85,7 @@ rising low column in_word (byte ∷ bytes) below =
     by true rest = rest low (omega arith)
     by false rest = (below, rest (suc column) (omega arith))
 
--- words that are behind a low column stop behind it
+-- words that are after a low column stop after it
 stops_above : (kinds : List Kind) (words : List Word) (low end column : ℕ) → IsRising low words end → Stops kinds words end column → low ≤ column
 stops_above [] [] low end column up stops = absurd stops
 stops_above [] (word ∷ words) low end column up stops = let at : low ≤ word.column = up.0 in omega arith
@@ -95,7 +95,7 @@ stops_above (kind ∷ kinds) (word ∷ words) low end column up (inr stops) =
     let at : low ≤ word.column = up.0 in
     let behind : suc word.column ≤ column = stops_above kinds words (suc word.column) end column up.1 stops.2 in omega arith
 
--- where the words up to one are the first of these kinds, they stop behind it
+-- where the words up to one are the first of these kinds, they stop after it
 pub stops_behind : (kinds : List Kind) (before : List Word) (word : Word) (behind : List Word) (low end column : ℕ) →
     IsRising low (before ++ word ∷ behind) end → Fronts kinds (texts (before ++ word ∷ [])) → Stops kinds (before ++ word ∷ behind) end column → word.column < column
 stops_behind [] [] word behind low end column up fronts stops = absurd fronts

@@ -33,7 +33,7 @@ no_space byte e = by (byte == 32) (graphic_no_space byte e)
     by true h = cc
     by false h = refl
 
--- the rest of a word, and what stands behind it
+-- the rest of a word, and what stands after it
 rest_of_word : (column : ℕ) (word rest : List ℕ) → list_all is_graphic word ≡ true → words_from column true (word ++ rest) ≡ words_from (column + length word) true rest
 rest_of_word column [] rest all = ap (λ (c : ℕ). words_from c true rest) (omega arith)
 rest_of_word column (byte ∷ word) rest all =

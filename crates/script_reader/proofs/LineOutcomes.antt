@@ -47,7 +47,7 @@ module _ (l : Language) (IsLine : List (List ℕ) → Type 0) (spoken : IsSpoken
     | inr of ↦ let stop = stops_of of.0 in stops_no_line (l.kinds_of of.0) of.1.0 (words_left cursor) (end_of cursor) stop.0 stop.1 of.1.1
   ]
 
-  -- the word behind those that fit farthest can't continue
+  -- the word after those that fit farthest can't continue
   cannot_continue : (low : ℕ) (before : List Word) (word : Word) (behind : List Word) → IsRising low (words_left cursor) (end_of cursor) →
       words_left cursor ≡ before ++ word ∷ behind → column ≡ word.column → Begins IsLine (texts (before ++ word ∷ [])) → ⊥
   cannot_continue low before word behind up cut place begins = elim (spoken.form (texts (before ++ word ∷ []) ++ begins.0) begins.1) [

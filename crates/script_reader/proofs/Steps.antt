@@ -24,7 +24,7 @@ pub record Goes (kinds rest : List Kind) (from at : Words) : Type 0 where
 pub goes_from : (kinds : List Kind) (from : Words) → Goes kinds kinds from from
 goes_from kinds from = record { whole = λ all. all; stops = λ column stop. stop }
 
--- this word and those behind it
+-- this word and those after it
 words_are : (at next : Words) (text : List ℕ) → Leads text at → IsNext at next → words_left at ≡ record { column = at.column; text = text } ∷ words_left next
 words_are at next text leads step = leads ∙ ap (λ (ws : List Word). record { column = at.column; text = text } ∷ ws) (sym step.words)
 

@@ -29,7 +29,7 @@ moved column n byte bytes = ap (λ (m : ℕ). words_from (column + m) false (dro
 stays : (column : ℕ) (bytes : List ℕ) → words_from (column + 0) false (drop 0 bytes) ≡ words_from column false bytes
 stays column bytes = ap (λ (m : ℕ). words_from m false bytes) (omega arith)
 
--- in the midst of a word: the next one begins behind its rest
+-- in the midst of a word: the next one begins after its rest
 pub behind_word : (column : ℕ) (bytes : List ℕ) →
     words_from (column + prefix_len is_no_space bytes) false (drop (prefix_len is_no_space bytes) bytes) ≡ words_from column true bytes
 behind_word column [] = refl
@@ -53,7 +53,7 @@ behind_spaces column (byte ∷ bytes) = by (byte == 32) refl (behind_spaces (suc
     by true e rest = moved column (prefix_len is_space bytes) byte bytes ∙ rest ∙ sym (words_from-space column false byte bytes e)
     by false e rest = stays column (byte ∷ bytes)
 
--- no space is behind the spaces in front
+-- no space is after the spaces in front
 pub no_space_first : (bytes : List ℕ) → get_or (drop (prefix_len is_space bytes) bytes) 0 0 ≢ 32
 no_space_first [] = λ e. absurd (omega (arith, e))
 no_space_first (byte ∷ bytes) = by (byte == 32) refl (no_space_first bytes)
@@ -63,7 +63,7 @@ no_space_first (byte ∷ bytes) = by (byte == 32) refl (no_space_first bytes)
     by true e rest = rw one-add rest
     by false e rest = elim (eqb_tells byte 32) [ inl told ↦ λ _. absurd (let no : true ≡ false = sym told.0 ∙ e in cc) | inr told ↦ told.1 ]
 
--- at a word: the words behind the first one
+-- at a word: the words after the first one
 pub others_from : (column : ℕ) (bytes : List ℕ) → get_or bytes 0 0 ≢ 32 →
     drop 1 (words_from column false bytes) ≡ words_from column true bytes
 others_from column [] apart = refl
@@ -72,7 +72,7 @@ others_from column (byte ∷ bytes) apart = elim (eqb_tells byte 32) [
   | inr told ↦ ap (drop 1) (words_from-begins column byte bytes told.0) ∙ sym (words_from-within column byte bytes told.0)
 ]
 
--- at a word: it, and the words behind it
+-- at a word: it, and the words after it
 pub first_and_others : (column : ℕ) (bytes : List ℕ) → get_or bytes 0 0 ≢ 32 → 0 < prefix_len is_no_space bytes →
     words_from column false bytes ≡ record { column = column; text = take (prefix_len is_no_space bytes) bytes } ∷ drop 1 (words_from column false bytes)
 first_and_others column [] apart some = absurd (omega arith)
@@ -85,7 +85,7 @@ first_and_others column (byte ∷ bytes) apart some = elim (eqb_tells byte 32) [
 rest_whole : (n : ℕ) (bytes : List ℕ) → take (length bytes - n) (drop n bytes) ≡ drop n bytes
 rest_whole n bytes = ap (λ (m : ℕ). take m (drop n bytes)) (sym (length-drop n bytes)) ∙ take-length (drop n bytes)
 
--- at a word: behind it and the spaces behind it
+-- at a word: after it and the spaces after it
 pub behind_both : (column len spaces : ℕ) (bytes : List ℕ) → get_or bytes 0 0 ≢ 32 →
     len ≡ prefix_len is_no_space bytes → spaces ≡ prefix_len is_space (take (length bytes - len) (drop len bytes)) →
     words_from (column + (len + spaces)) false (drop (len + spaces) bytes) ≡ drop 1 (words_from column false bytes)

@@ -37,7 +37,7 @@ pub record HasBadWord (IsLine : List (List ℕ) → Type 0) (text : List ℕ) (c
   pub ends : Begins IsLine (texts (before ++ word ∷ [])) → ⊥
   pub place : column ≡ word.column
 
--- the words begin some line's words, and are no line's: something is missing behind the end
+-- the words begin some line's words, and are no line's: something is missing after the end
 pub record IsUnfinished (IsLine : List (List ℕ) → Type 0) (text : List ℕ) (column : ℕ) : Type 0 where
   pub is_text : IsText text
   pub begins : Begins IsLine (texts (words_of text))
@@ -62,7 +62,7 @@ abbrev pub IfBad : (ℕ → Type 0) → LineFault → Type 0
 IfBad Fact (Bad column) = Fact column
 IfBad Fact (Memory fault) = Unit {0}
 
--- a fact where memory was wanting
+-- a fact where memory ran out
 abbrev pub IfMemory : Type 0 → LineFault → Type 0
 IfMemory Fact (Bad column) = Unit {0}
 IfMemory Fact (Memory fault) = Fact

@@ -8,7 +8,7 @@ use Rattle.script_reader.specs.Words.{Word, words_from}
 abbrev pub words_left : Words → List Word
 words_left cursor = words_from cursor.column false cursor.rest.now
 
--- the column behind the line
+-- the column after the line
 abbrev pub end_of : Words → ℕ
 end_of cursor = cursor.column + length cursor.rest.now
 

@@ -20,7 +20,7 @@ fn space_len(text: &[u8]) -> usize
     text.iter().take_while(|byte| **byte == SPACE).count()
 }
 
-/// Where the word behind the one in front begins.
+/// Where the word after the one in front begins.
 fn next_place(text: &[u8]) -> usize
     requires { slice_index text.now 0 ≢ 32 }
     ensures within { result ≤ length text.now }
@@ -42,7 +42,7 @@ fn first_place(text: &[u8]) -> usize
     space_len(text)
 }
 
-/// Goes over the words of a line. It stands at the first byte of a word, or behind the line.
+/// Goes over the words of a line. It stands at the first byte of a word, or after the line.
 #[derive(Clone, Copy)]
 pub struct Words<'a> {
     rest: &'a [u8],
@@ -80,14 +80,14 @@ impl<'a> Words<'a> {
         Some(&self.rest[..len])
     }
 
-    /// The column of the next word, or behind the line.
+    /// The column of the next word, or after the line.
     pub fn column(&self) -> u32
         ensures { result ≡ self.now.column }
     {
         self.column
     }
 
-    /// Goes behind the next word.
+    /// Goes after the next word.
     pub fn advance(&mut self)
         ensures { IsNext self.old self.new }
     {

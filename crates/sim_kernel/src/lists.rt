@@ -21,7 +21,7 @@ fn place_for(rules: &[Rule], priority: u32) -> usize
     first_behind(rules, priority).unwrap_or(rules.len())
 }
 
-/// Puts a rule behind those whose priority isn't greater, in the room that is there.
+/// Puts a rule after those whose priority isn't greater, in the room that is there.
 pub fn insert_rule(rules: &mut Vec<Rule>, rule: Rule)
     requires { vec_len rules.old < vec_capacity rules.old }
     ensures items { rules.new.items ≡ placed rule_kind rule rules.old.items }

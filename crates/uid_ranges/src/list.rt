@@ -112,7 +112,7 @@ impl RangeList {
         lists_meet(&self.ranges, list)
     }
 
-    /// The list with these behind it.
+    /// The list with these after it.
     pub fn with(&self, more: &[UidRange]) -> Result<RangeList, AllocError>
         requires disjoint { AreDisjoint more.now }
         requires apart { lists_meet self.now more.now ≡ false }

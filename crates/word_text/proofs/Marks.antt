@@ -30,7 +30,7 @@ no_0x text e digits is =
 rest_same : (text digits others : List ℕ) → text ≡ codes "0x" ++ digits → text ≡ codes "0x" ++ others → others ≡ digits
 rest_same text digits others one other = sym (ap (drop 2) other) ∙ ap (drop 2) one
 
--- no mark stands behind anything else
+-- no mark stands after anything else
 pub no_mark : (text : List ℕ) → ((digits : List ℕ) → text ≡ codes "0x" ++ digits → ⊥) → (bits : ℕ) → SpellsMark text bits → ⊥
 no_mark text none bits spells = none spells.digits spells.cut
 

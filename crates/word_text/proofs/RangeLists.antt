@@ -46,7 +46,7 @@ pub ranges_more : (text left right : List ℕ) (users : UidRange) (more : List U
 ranges_more text left right users [] cut one others = absurd others
 ranges_more text left right users (next ∷ more) cut one others = (left, right, cut, one, others)
 
--- what reading the others gives, behind a first range
+-- what reading the others gives, after a first range
 pub reads_more : (text left right : List ℕ) (users : UidRange) (old mid new : List UidRange) (read : Result Bool AllocError) → text ≡ left ++ comma ∷ right → has_byte comma left ≡ false →
     SpellsRange left users → mid ≡ old ++ users ∷ [] → ReadsRanges right mid new read → ReadsRanges text old new read
 reads_more text left right users old mid new (Ok true) cut none one pushed reads = (

@@ -12,7 +12,7 @@ use Rattle.word_text.specs.Kinds.{Gives}
 pub no_dash : (text : List ℕ) → AllDigits 10 text → has_byte dash text ≡ false
 no_dash text all = has_byte-digits 10 dash text (omega arith) all
 
--- the two UIDs of a range stand before and behind the first '-'
+-- the two UIDs of a range stand before and after the first '-'
 pub range_cut : (text left right : List ℕ) (users : UidRange) → text ≡ left ++ dash ∷ right → has_byte dash left ≡ false → SpellsRange text users →
     SpellsUid left users.first × SpellsUid right users.last
 range_cut text left right users cut none spells =

@@ -36,7 +36,7 @@ abbrev pub value_text : (kind : Kind) → ValueOf kind → List ℕ
 value_text (literal text) value = text
 value_text (valued what) value = meant_text what value
 
--- behind each line of a text
+-- after each line of a text
 abbrev pub line_feed : ℕ
 line_feed = 10
 

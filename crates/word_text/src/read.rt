@@ -79,7 +79,7 @@ fn read_bits(digits: &[u8]) -> Option<u32>
     Some(read_hexadecimal(digits, 0xffff_ffff)? as u32)
 }
 
-/// What stands behind '0x'.
+/// What stands after '0x'.
 fn behind_0x(word: &[u8]) -> Option<&[u8]>
     ensures { MatchOption result
         ((digits : List ℕ) → word.now ≡ codes "0x" ++ digits → ⊥)

@@ -3,7 +3,7 @@ use Rattle.addr_text.specs.Canonical.{parts_of}
 use Rattle.addr_text.specs.Forms.{base_of, count_of}
 use Rattle.addr_text.proofs.row.parts_of.Given as goal
 
--- the digits that are there stand behind those of the rest
+-- the digits that are there stand after those of the rest
 abbrev pub invariant-loop-done : goal.invariant-loop-done
 invariant-loop-done l =
     (length l.parts.items ≡ l._done)

@@ -6,7 +6,7 @@ use Rattle.rule_match.specs.declared.verdict.Verdict.{Verdict}
 use Rattle.policy_meaning.specs.Policy.{first_of, asks_link}
 use Rattle.policy_meaning.proofs.asking.ask_interfaces.Goals as goal
 
--- from the interface at a place on: what it says, or else what those behind it say
+-- from the interface at a place on: what it says, or else what those after it say
 from : (says : ℕ → Option Verdict) (links : List ℕ) (i : ℕ) → i < length links
     → first_of (map says (drop i links)) ≡ option_or (says (get_or links i 0)) (first_of (map says (drop (i + 1) links)))
 from says links i within = at_drop_more (λ ls. first_of (map says ls)) links i 0 within
