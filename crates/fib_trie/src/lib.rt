@@ -11,6 +11,3 @@ mod table;
 
 pub use reader::NodeReader;
 pub use table::TrieTable;
-
-#[cfg(test)]
-mod tests;

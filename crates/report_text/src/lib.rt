@@ -15,6 +15,3 @@ pub use rules::write_rules;
 pub use table::write_table;
 pub use trail::write_trail;
 pub use verdict::write_verdict;
-
-#[cfg(test)]
-mod tests;

@@ -16,6 +16,3 @@ pub use laws::{canonical_text, one_column, one_line};
 pub use line::{Line, ShowLine, TraceLine};
 pub use print::print_line;
 pub use read::read_line;
-
-#[cfg(test)]
-mod tests;

@@ -5,7 +5,5 @@ mod lists;
 mod numbered;
 mod sim;
 mod tables;
-#[cfg(test)]
-mod tests;
 
 pub use sim::SimKernel;

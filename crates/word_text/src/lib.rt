@@ -20,6 +20,3 @@ pub use write::{
     write_mark, write_name, write_number, write_permission, write_range, write_ranges, write_uid,
     write_value,
 };
-
-#[cfg(test)]
-mod tests;

@@ -1,5 +1,6 @@
-use crate::{NodeReader, TrieTable};
+//! What a search in a trie reads.
 use fib_search::lookup_counted;
+use fib_trie::{NodeReader, TrieTable};
 use prefixes::{Addr, Out, Prefix, Route};
 use std::process::Abort;
 use std::test::Fail;
