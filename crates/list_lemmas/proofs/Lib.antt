@@ -1,5 +1,6 @@
 pub mod Alls
 pub mod Anys
+pub mod Pairs
 pub mod Places
 pub mod Positions
 pub mod Numbers

@@ -1,3 +1,4 @@
 pub mod Disjoint
 pub mod Same
 pub mod Shared
+pub mod RankedLists

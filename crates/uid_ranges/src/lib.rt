@@ -3,6 +3,8 @@
 
 mod list;
 mod range;
+mod ranked;
 
 pub use list::{RangeList, self_meets};
 pub use range::{Uid, UidRange};
+pub use ranked::{LAST_RANK, Ranked, RankedList};
