@@ -1,7 +1,7 @@
 -- Lists of networks, in the order of their creation.
 use Rattle.std.specs.Prelude.{◌≡◌, ℕ, ◌==◌, ◌&&◌, Bool, true, not, List, [], ◌∷◌, map, find, Option, if◌then◌else◌}
 use Rattle.std.specs.List.{list_any}
-use Rattle.networks.specs.Network.{has_link, holds_user}
+use Rattle.networks.specs.Network.{has_link}
 use Rattle.networks.specs.declared.network.Network.{Network}
 
 abbrev pub find_id : ℕ → List Network → Option Network
@@ -10,10 +10,6 @@ find_id id networks = find (λ n. id == n.id) networks
 -- the network of which the link is an interface
 abbrev pub find_link : ℕ → List Network → Option Network
 find_link link networks = find (λ n. has_link n link) networks
-
--- the VPN of the user
-abbrev pub find_vpn : ℕ → List Network → Option Network
-find_vpn uid networks = find (λ n. holds_user n uid) networks
 
 -- the network in the place of the one with its id, or last
 abbrev pub put_net : Network → List Network → List Network

@@ -1,12 +1,11 @@
 -- Networks: their interfaces, their routes and their users.
-use Rattle.std.specs.Prelude.{ℕ, ◌==◌, ◌&&◌, Bool, false, List, [], map, filter}
+use Rattle.std.specs.Prelude.{ℕ, ◌==◌, ◌&&◌, Bool, List, [], map, filter}
 use Rattle.std.specs.List.{list_any}
-use Rattle.networks.specs.declared.network.Kind.TheVariants as kind
+use Rattle.networks.specs.declared.kind.Kind.TheVariants as kind
 use Rattle.networks.specs.declared.network.LinkRoute.{LinkRoute}
 use Rattle.networks.specs.declared.network.Network.{Network}
 use Rattle.prefixes.specs.Route.{same_key}
 use Rattle.prefixes.specs.declared.route.Route.{Route}
-use Rattle.uid_ranges.specs.Ranges.{any_holds}
 
 -- the link is an interface of the network
 abbrev pub has_link : Network → ℕ → Bool
@@ -19,14 +18,6 @@ routes_by link routes = map (λ r. r.route) (filter (λ r. r.link == link) route
 -- the route belongs to the link and has this one's key
 abbrev pub is_keyed_by : ℕ → Route → LinkRoute → Bool
 is_keyed_by link key r = (r.link == link) && same_key r.route key
-
--- the network is a VPN of this user
-abbrev pub holds_user : Network → ℕ → Bool
-holds_user network uid = elim network.kind [
-  | kind.Virtual secure ranges ↦ any_holds ranges uid
-  | kind.Physical permission ↦ false
-  | kind.Local ↦ false
-]
 
 -- the id that netd gives the local network
 abbrev pub local_id : ℕ

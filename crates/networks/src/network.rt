@@ -1,22 +1,10 @@
 ghost use Rattle.std.specs.Prelude.{◌≡◌, ◌++◌, ◌∷◌, [], filter, not, IfOk};
-ghost use Rattle.networks.specs.Network.{has_link, holds_user, is_keyed_by};
+ghost use Rattle.networks.specs.Network.{has_link, is_keyed_by};
 
-use fwmark::Permission;
+use crate::kind::Kind;
 use prefixes::{Route, same_key};
 use std::alloc::{AllocError, Global};
 use std::marker::Model;
-use uid_ranges::{RangeList, Uid};
-
-/// What a network is for.
-#[derive(Clone, Debug, Drop)]
-pub enum Kind {
-    /// What is reached without the internet. There is one, from the start.
-    Local,
-    /// A network that only packets with this permission may choose.
-    Physical { permission: Permission },
-    /// A VPN for the users of these ranges. A secure one leaves them no other way.
-    Virtual { secure: bool, ranges: RangeList },
-}
 
 /// The indices of links, in the order of their addition.
 #[derive(Clone, Debug, Drop)]
@@ -162,15 +150,5 @@ impl Network {
             .as_slice()
             .iter()
             .any(|other| *other == link)
-    }
-
-    /// Whether the network is a VPN of this user.
-    pub fn holds(&self, uid: Uid) -> bool
-        ensures { result ≡ holds_user self.now uid.number }
-    {
-        match &self.kind {
-            Kind::Virtual { ranges, .. } => ranges.holds(uid),
-            Kind::Local | Kind::Physical { .. } => false,
-        }
     }
 }

@@ -1,13 +1,13 @@
 ghost use Rattle.std.specs.Prelude.{◌≡◌, ◌∷◌, [], length, IfOk, slice_get};
 ghost use Rattle.std.specs.Option.{option_copied};
 ghost use Rattle.networks.specs.Network.{local_network};
-ghost use Rattle.networks.specs.Lists.{find_id, find_link, find_vpn, put_net, drop_net};
+ghost use Rattle.networks.specs.Lists.{find_id, find_link, put_net, drop_net};
 
-use crate::network::{Kind, LinkRoutes, Links, Network};
+use crate::kind::Kind;
+use crate::network::{LinkRoutes, Links, Network};
 use indexmap::IndexMap;
 use std::alloc::{AllocError, Global};
 use std::marker::Model;
-use uid_ranges::Uid;
 
 /// The id of the local network, as netd has it.
 pub const LOCAL_ID: u16 = 99;
@@ -81,13 +81,6 @@ impl Networks {
         ensures { option_copied result ≡ find_link link self.now }
     {
         self.by_id.values().find(|network| network.has_link(link))
-    }
-
-    /// The VPN of the user, of either kind.
-    pub fn vpn_of(&self, uid: Uid) -> Option<&Network>
-        ensures { option_copied result ≡ find_vpn uid.number self.now }
-    {
-        self.by_id.values().find(|network| network.holds(uid))
     }
 
     /// Equal networks in the same order.

@@ -4,7 +4,7 @@ use prefixes::{Addr, Out, Prefix, Route};
 use std::alloc::Global;
 use std::process::Abort;
 use std::test::Fail;
-use uid_ranges::{RangeList, Uid, UidRange};
+use uid_ranges::{RankedList, Uid, UidRange};
 
 fn uid(rt: &impl Abort, number: u32) -> Uid {
     Uid::new(number).expect(rt, "a UID")
@@ -23,6 +23,7 @@ fn wifi(rt: &impl Abort, alloc: Global) -> Result<Network, Fail> {
         id: 100,
         kind: Kind::Physical {
             permission: Permission::Nothing,
+            apps: RankedList::empty(alloc),
         },
         interfaces: Links::empty(alloc).with(3)?,
         routes: LinkRoutes::empty(alloc).with(LinkRoute { link: 3, route })?,
@@ -36,7 +37,7 @@ fn vpn(rt: &impl Abort, alloc: Global) -> Result<Network, Fail> {
         id: 200,
         kind: Kind::Virtual {
             secure: false,
-            ranges: RangeList::empty(alloc).with(&[apps])?,
+            users: RankedList::empty(alloc).with(&[apps], 7)?,
         },
         interfaces: Links::empty(alloc),
         routes: LinkRoutes::empty(alloc),
@@ -58,10 +59,8 @@ fn id_of(network: Option<&Network>) -> Option<u16> {
 #[test]
 fn networks_come(rt: HostRuntime) -> Result<(), Fail> {
     let networks = three(&rt, rt.alloc())?;
-    let user = uid(&rt, 10009);
     assert_eq!(rt; id_of(networks.get(99)), Some(99));
     assert_eq!(rt; id_of(networks.network_of(3)), Some(100));
-    assert_eq!(rt; id_of(networks.vpn_of(user)), Some(200));
     Ok(())
 }
 
