@@ -1,3 +1,7 @@
 pub mod View
-pub mod Step
+pub mod Parts
+pub mod Rows
 pub mod Table
+pub mod Counts
+pub mod Good
+pub mod Step

@@ -1,20 +1,21 @@
-// The states that accepted commands lead to.
+// The parts of the states that accepted commands lead to.
 ghost use Rattle.std.specs.Prelude.{◌≡◌, None, IfOk, filter, not};
 ghost use Rattle.std.specs.Str.{bytes_eq};
 ghost use Rattle.networks.specs.Lists.{put_net};
+ghost use Rattle.policy_state.specs.Parts.{view_of};
 ghost use Rattle.policy_state.specs.Step as step;
-ghost use Rattle.policy_state.specs.View.{IsGood};
 
 use crate::link::Link;
+use crate::parts::Parts;
 use crate::routes::{key_of, route_of};
 use crate::state::State;
 use commands::{Command, Way};
 use fwmark::Permission;
 use net_names::Name;
-use networks::{Kind, LinkRoute, LinkRoutes, Links, Network, Networks};
+use networks::{Kind, LinkRoute, LinkRoutes, Links, Network};
 use prefixes::{Prefix, Route};
 use std::alloc::{AllocError, Global};
-use uid_ranges::{RangeList, UidRange};
+use uid_ranges::{RankedList, UidRange};
 
 fn links_without(alloc: Global, links: &[Link], name: &Name) -> Result<Vec<Link>, AllocError>
     ensures { IfOk result (λ left. left.items ≡
@@ -70,121 +71,100 @@ fn without_route(network: &Network, link: u16, key: &Route) -> Result<Network, A
     with_routes(network, routes)
 }
 
+fn asking_for(permission: Permission, kind: &Kind) -> Result<Kind, AllocError>
+    ensures { IfOk result (λ changed. changed ≡ step.asking_for permission kind.now) }
+{
+    match kind {
+        Kind::Physical { apps, .. } => Ok(Kind::Physical {
+            permission,
+            apps: apps.clone()?,
+        }),
+        Kind::Local | Kind::Virtual { .. } => kind.clone(),
+    }
+}
+
 fn with_permission(network: &Network, permission: Permission) -> Result<Network, AllocError>
     ensures { IfOk result (λ changed. changed ≡ step.with_permission permission network.now) }
 {
     Ok(Network {
         id: network.id,
-        kind: Kind::Physical { permission },
+        kind: asking_for(permission, &network.kind)?,
         interfaces: network.interfaces.clone()?,
         routes: network.routes.clone()?,
     })
 }
 
-impl State {
-    // The state with other links.
-    fn with_links(&self, links: Vec<Link>) -> Result<State, AllocError>
-        requires { IsGood (record self.now { links = links.items }) }
-        ensures { IfOk result (λ state. state ≡ record self.now { links = links.items }) }
+impl Parts {
+    // With this network in the place of the one with its id, or as the last.
+    fn put(&mut self, network: Network) -> Result<(), AllocError>
+        ensures { IfOk result (λ _. view_of self.new ≡
+            record (view_of self.old) { networks = put_net network (view_of self.old).networks }) }
     {
-        Ok(State {
-            alloc: self.alloc,
-            links,
-            networks: self.networks.copy()?,
-            lockdown: self.lockdown.clone()?,
-        })
+        self.networks = self.networks.put(network)?;
+        Ok(())
+    }
+}
+
+impl State {
+    fn link_added(&self, name: Name, index: u16) -> Result<Parts, AllocError>
+        ensures { IfOk result (λ parts. view_of parts ≡
+            step.changed self.now (Command.LinkAdd name index)) }
+    {
+        let mut parts = self.parts.copy()?;
+        parts.links.push(Link { name, index })?;
+        Ok(parts)
     }
 
-    // The state with other networks.
-    fn with_networks(&self, networks: Networks) -> Result<State, AllocError>
-        requires { IsGood (record self.now { networks = networks }) }
-        ensures { IfOk result (λ state. state ≡ record self.now { networks = networks }) }
+    fn link_removed(&self, name: &Name) -> Result<Parts, AllocError>
+        ensures { IfOk result (λ parts. view_of parts ≡
+            step.changed self.now (Command.LinkRemove name.now)) }
     {
-        Ok(State {
-            alloc: self.alloc,
-            links: Vec::from_slice(self.alloc, self.links())?,
-            networks,
-            lockdown: self.lockdown.clone()?,
-        })
+        let mut parts = self.parts.copy()?;
+        parts.links = links_without(parts.alloc, self.links(), name)?;
+        Ok(parts)
     }
 
     // The state with this network in the place of the one with its id, or as the last.
-    fn with_network(&self, network: Network) -> Result<State, AllocError>
-        requires { IsGood (record self.now { networks = put_net network self.now.networks }) }
-        ensures { IfOk result (λ state. state ≡
+    fn with_network(&self, network: Network) -> Result<Parts, AllocError>
+        ensures { IfOk result (λ parts. view_of parts ≡
             record self.now { networks = put_net network self.now.networks }) }
     {
-        let networks = self.networks().put(network)?;
-        self.with_networks(networks)
+        let mut parts = self.parts.copy()?;
+        parts.put(network)?;
+        Ok(parts)
     }
 
-    // The state with other ranges locked down.
-    fn with_lockdown(&self, lockdown: RangeList) -> Result<State, AllocError>
-        requires { IsGood (record self.now { lockdown = lockdown }) }
-        ensures { IfOk result (λ state. state ≡ record self.now { lockdown = lockdown }) }
+    fn physical_created(&self, net: u16, permission: Permission) -> Result<Parts, AllocError>
+        requires { step.first_that_holds
+            (step.reasons self.now (Command.CreatePhysical net permission)) ≡ None }
+        ensures { IfOk result (λ parts. view_of parts ≡
+            step.changed self.now (Command.CreatePhysical net permission)) }
     {
-        Ok(State {
-            alloc: self.alloc,
-            links: Vec::from_slice(self.alloc, self.links())?,
-            networks: self.networks.copy()?,
-            lockdown,
+        let alloc = self.parts.alloc;
+        self.with_network(Network {
+            id: net,
+            kind: Kind::Physical {
+                permission,
+                apps: RankedList::empty(alloc),
+            },
+            interfaces: Links::empty(alloc),
+            routes: LinkRoutes::empty(alloc),
         })
     }
 
-    fn link_added(&self, name: Name, index: u16) -> Result<State, AllocError>
-        requires { step.refusal self.now (Command.LinkAdd name index) ≡ None }
-        ensures { IfOk result (λ state. state ≡
-            step.changed self.now (Command.LinkAdd name index)) }
-    {
-        let mut links = Vec::from_slice(self.alloc, self.links())?;
-        links.push(Link { name, index })?;
-        self.with_links(links)
-    }
-
-    fn link_removed(&self, name: &Name) -> Result<State, AllocError>
-        requires { step.refusal self.now (Command.LinkRemove name.now) ≡ None }
-        ensures { IfOk result (λ state. state ≡
-            step.changed self.now (Command.LinkRemove name.now)) }
-    {
-        let links = links_without(self.alloc, self.links(), name)?;
-        self.with_links(links)
-    }
-
-    fn physical_created(&self, net: u16, permission: Permission) -> Result<State, AllocError>
-        requires { step.refusal self.now (Command.CreatePhysical net permission) ≡ None }
-        ensures { IfOk result (λ state. state ≡
-            step.changed self.now (Command.CreatePhysical net permission)) }
-    {
-        let network = Network {
-            id: net,
-            kind: Kind::Physical { permission },
-            interfaces: Links::empty(self.alloc),
-            routes: LinkRoutes::empty(self.alloc),
-        };
-        self.with_network(network)
-    }
-
-    // The same state.
-    fn copy(&self) -> Result<State, AllocError>
-        ensures { IfOk result (λ state. state ≡ self.now) }
-    {
-        let networks = self.networks().copy()?;
-        self.with_networks(networks)
-    }
-
-    fn interface_added(&self, net: u16, name: &Name) -> Result<State, AllocError>
-        requires { step.refusal self.now (Command.InterfaceAdd net name.now) ≡ None }
-        ensures { IfOk result (λ state. state ≡
+    fn interface_added(&self, net: u16, name: &Name) -> Result<Parts, AllocError>
+        requires { step.first_that_holds
+            (step.reasons self.now (Command.InterfaceAdd net name.now)) ≡ None }
+        ensures { IfOk result (λ parts. view_of parts ≡
             step.changed self.now (Command.InterfaceAdd net name.now)) }
     {
         let Some(link) = self.link_named(name) else {
-            return self.copy();
+            return self.parts.copy();
         };
         let Some(network) = self.networks().get(net) else {
-            return self.copy();
+            return self.parts.copy();
         };
-        let network = with_link(network, link)?;
-        self.with_network(network)
+        self.with_network(with_link(network, link)?)
     }
 
     fn route_added(
@@ -193,16 +173,17 @@ impl State {
         name: &Name,
         prefix: Prefix,
         way: Way,
-    ) -> Result<State, AllocError>
-        requires { step.refusal self.now (Command.RouteAdd net name.now prefix way) ≡ None }
-        ensures { IfOk result (λ state. state ≡
+    ) -> Result<Parts, AllocError>
+        requires { step.first_that_holds
+            (step.reasons self.now (Command.RouteAdd net name.now prefix way)) ≡ None }
+        ensures { IfOk result (λ parts. view_of parts ≡
             step.changed self.now (Command.RouteAdd net name.now prefix way)) }
     {
         let Some(link) = self.link_named(name) else {
-            return self.copy();
+            return self.parts.copy();
         };
         let Some(network) = self.networks().get(net) else {
-            return self.copy();
+            return self.parts.copy();
         };
         let network = with_route(network, link, route_of(link, prefix, way))?;
         self.with_network(network)
@@ -214,54 +195,58 @@ impl State {
         name: &Name,
         prefix: Prefix,
         special: bool,
-    ) -> Result<State, AllocError>
-        requires { step.refusal self.now (Command.RouteRemove net name.now prefix special) ≡ None }
-        ensures { IfOk result (λ state. state ≡
+    ) -> Result<Parts, AllocError>
+        requires { step.first_that_holds
+            (step.reasons self.now (Command.RouteRemove net name.now prefix special)) ≡ None }
+        ensures { IfOk result (λ parts. view_of parts ≡
             step.changed self.now (Command.RouteRemove net name.now prefix special)) }
     {
         let Some(link) = self.link_named(name) else {
-            return self.copy();
+            return self.parts.copy();
         };
         let Some(network) = self.networks().get(net) else {
-            return self.copy();
+            return self.parts.copy();
         };
         let network = without_route(network, link, &key_of(link, prefix, special))?;
         self.with_network(network)
     }
 
-    fn permission_set(&self, net: u16, permission: Permission) -> Result<State, AllocError>
-        requires { step.refusal self.now (Command.PermissionNetwork net permission) ≡ None }
-        ensures { IfOk result (λ state. state ≡
+    fn permission_set(&self, net: u16, permission: Permission) -> Result<Parts, AllocError>
+        requires { step.first_that_holds
+            (step.reasons self.now (Command.PermissionNetwork net permission)) ≡ None }
+        ensures { IfOk result (λ parts. view_of parts ≡
             step.changed self.now (Command.PermissionNetwork net permission)) }
     {
         let Some(network) = self.networks().get(net) else {
-            return self.copy();
+            return self.parts.copy();
         };
-        let network = with_permission(network, permission)?;
-        self.with_network(network)
+        self.with_network(with_permission(network, permission)?)
     }
 
-    fn lockdown_added(&self, range: UidRange) -> Result<State, AllocError>
-        requires { step.refusal self.now (Command.LockdownAdd range) ≡ None }
-        ensures { IfOk result (λ state. state ≡ step.changed self.now (Command.LockdownAdd range)) }
+    fn lockdown_added(&self, range: UidRange) -> Result<Parts, AllocError>
+        requires { step.first_that_holds
+            (step.reasons self.now (Command.LockdownAdd range)) ≡ None }
+        ensures { IfOk result (λ parts. view_of parts ≡
+            step.changed self.now (Command.LockdownAdd range)) }
     {
-        let lockdown = self.lockdown().with(&[range])?;
-        self.with_lockdown(lockdown)
+        let mut parts = self.parts.copy()?;
+        parts.lockdown = self.lockdown().with(&[range])?;
+        Ok(parts)
     }
 
-    fn lockdown_removed(&self, range: UidRange) -> Result<State, AllocError>
-        requires { step.refusal self.now (Command.LockdownRemove range) ≡ None }
-        ensures { IfOk result (λ state. state ≡
+    fn lockdown_removed(&self, range: UidRange) -> Result<Parts, AllocError>
+        ensures { IfOk result (λ parts. view_of parts ≡
             step.changed self.now (Command.LockdownRemove range)) }
     {
-        let lockdown = self.lockdown().without(&[range])?;
-        self.with_lockdown(lockdown)
+        let mut parts = self.parts.copy()?;
+        parts.lockdown = self.lockdown().without(&[range])?;
+        Ok(parts)
     }
 
-    // The state after a command that is accepted.
-    pub(crate) fn changed_by(&self, command: &Command) -> Result<State, AllocError>
-        requires { step.refusal self.now command.now ≡ None }
-        ensures { IfOk result (λ state. state ≡ step.changed self.now command.now) }
+    // The parts of the state after a command that is accepted.
+    pub(crate) fn changed_by(&self, command: &Command) -> Result<Parts, AllocError>
+        requires { step.first_that_holds (step.reasons self.now command.now) ≡ None }
+        ensures { IfOk result (λ parts. view_of parts ≡ step.changed self.now command.now) }
     {
         match *command {
             Command::LinkAdd { name, index } => self.link_added(name, index),

@@ -7,11 +7,13 @@ ghost use Rattle.networks.specs.Lists.{find_id};
 ghost use Rattle.policy_state.specs.Step as step;
 ghost use Rattle.policy_state.specs.View.{link_named};
 
-use crate::routes::{count_of, has_key, is_way_of_other_family, key_of, route_of};
+use crate::routes::{
+    count_in_table, has_key, is_special, is_way_of_other_family, key_of, route_of,
+};
 use crate::state::State;
 use commands::{Command, Way};
 use net_names::{Code, Name};
-use networks::{Kind, LOCAL_ID, Network};
+use networks::Network;
 use prefixes::Prefix;
 use uid_ranges::UidRange;
 
@@ -47,13 +49,14 @@ impl State {
         ensures { result ≡ list_any (λ l. bytes_eq l.name name.now || l.index == index)
             self.now.links }
     {
-        self.links
+        self.links()
             .iter()
             .any(|link| link.name == *name || link.index == index)
     }
 
     fn link_add_refusal(&self, name: &Name, index: u16) -> Option<Code>
-        ensures { result ≡ step.refusal self.now (Command.LinkAdd name.now index) }
+        ensures { result ≡
+            step.first_that_holds (step.reasons self.now (Command.LinkAdd name.now index)) }
     {
         if index < LEAST_INDEX {
             return Some(Code::Invalid);
@@ -61,7 +64,7 @@ impl State {
         if self.is_taken(name, index) {
             return Some(Code::Exists);
         }
-        if self.links.len() >= MOST_LINKS {
+        if self.links().len() >= MOST_LINKS {
             return Some(Code::NoSpace);
         }
         None
@@ -71,11 +74,19 @@ impl State {
     fn is_in_any(&self, link: u16) -> bool
         ensures { result ≡ step.is_in_any self.now link }
     {
-        self.networks.network_of(link).is_some()
+        self.networks().network_of(link).is_some()
+    }
+
+    // Whether the link is the input of a tether pair.
+    fn is_input(&self, link: u16) -> bool
+        ensures { result ≡ step.is_input self.now link }
+    {
+        self.pairs().iter().any(|pair| pair.input == link)
     }
 
     fn link_remove_refusal(&self, name: &Name) -> Option<Code>
-        ensures { result ≡ step.refusal self.now (Command.LinkRemove name.now) }
+        ensures { result ≡
+            step.first_that_holds (step.reasons self.now (Command.LinkRemove name.now)) }
     {
         let Some(link) = self.link_named(name) else {
             return Some(Code::NoDevice);
@@ -83,7 +94,7 @@ impl State {
         if is_lo(name) {
             return Some(Code::Invalid);
         }
-        if self.is_in_any(link) {
+        if self.is_in_any(link) || self.is_input(link) {
             return Some(Code::Busy);
         }
         None
@@ -91,27 +102,28 @@ impl State {
 
     fn create_refusal(&self, net: u16) -> Option<Code>
         ensures { (permission : Permission) → result ≡
-            step.refusal self.now (Command.CreatePhysical net permission) }
+            step.first_that_holds (step.reasons self.now (Command.CreatePhysical net permission)) }
     {
         if net < LEAST_ID {
             return Some(Code::Invalid);
         }
-        if self.networks.get(net).is_some() {
+        if self.networks().get(net).is_some() {
             return Some(Code::Exists);
         }
-        if self.networks.len() >= MOST_NETWORKS {
+        if self.networks().len() >= MOST_NETWORKS {
             return Some(Code::NoSpace);
         }
         None
     }
 
     fn interface_add_refusal(&self, net: u16, name: &Name) -> Option<Code>
-        ensures { result ≡ step.refusal self.now (Command.InterfaceAdd net name.now) }
+        ensures { result ≡
+            step.first_that_holds (step.reasons self.now (Command.InterfaceAdd net name.now)) }
     {
-        let Some(network) = self.networks.get(net) else {
+        let Some(network) = self.networks().get(net) else {
             return Some(Code::NoNetwork);
         };
-        if is_lo(name) || net == LOCAL_ID {
+        if is_lo(name) {
             return Some(Code::Invalid);
         }
         let Some(link) = self.link_named(name) else {
@@ -138,7 +150,7 @@ impl State {
         ensures refused { IfErr result (λ code.
             step.first_that_holds (step.route_reasons self.now net name.now) ≡ Some code) }
     {
-        let Some(network) = self.networks.get(net) else {
+        let Some(network) = self.networks().get(net) else {
             return Err(Code::NoNetwork);
         };
         let Some(link) = self.link_named(name) else {
@@ -154,19 +166,20 @@ impl State {
     }
 
     fn route_add_refusal(&self, net: u16, name: &Name, prefix: Prefix, way: Way) -> Option<Code>
-        ensures { result ≡ step.refusal self.now (Command.RouteAdd net name.now prefix way) }
+        ensures { result ≡
+            step.first_that_holds (step.reasons self.now (Command.RouteAdd net name.now prefix way)) }
     {
         let (network, link) = match self.route_place(net, name) {
             Ok(place) => place,
             Err(code) => return Some(code),
         };
-        if is_way_of_other_family(prefix, way) {
+        if is_special(way) && network.kind.is_local() || is_way_of_other_family(prefix, way) {
             return Some(Code::Invalid);
         }
         if has_key(network, link, &route_of(link, prefix, way)) {
             return Some(Code::Exists);
         }
-        if count_of(network, link) >= MOST_ROUTES {
+        if count_in_table(network, link) >= MOST_ROUTES {
             return Some(Code::NoSpace);
         }
         None
@@ -179,7 +192,8 @@ impl State {
         prefix: Prefix,
         special: bool,
     ) -> Option<Code>
-        ensures { result ≡ step.refusal self.now (Command.RouteRemove net name.now prefix special) }
+        ensures { result ≡
+            step.first_that_holds (step.reasons self.now (Command.RouteRemove net name.now prefix special)) }
     {
         let (network, link) = match self.route_place(net, name) {
             Ok(place) => place,
@@ -193,41 +207,43 @@ impl State {
 
     fn permission_refusal(&self, net: u16) -> Option<Code>
         ensures { (permission : Permission) → result ≡
-            step.refusal self.now (Command.PermissionNetwork net permission) }
+            step.first_that_holds (step.reasons self.now (Command.PermissionNetwork net permission)) }
     {
-        let Some(network) = self.networks.get(net) else {
+        let Some(network) = self.networks().get(net) else {
             return Some(Code::NoNetwork);
         };
-        match network.kind {
-            Kind::Physical { .. } => None,
-            Kind::Local | Kind::Virtual { .. } => Some(Code::Invalid),
+        if !network.kind.is_physical() {
+            return Some(Code::Invalid);
         }
+        None
     }
 
     fn lockdown_add_refusal(&self, range: UidRange) -> Option<Code>
-        ensures { result ≡ step.refusal self.now (Command.LockdownAdd range) }
+        ensures { result ≡
+            step.first_that_holds (step.reasons self.now (Command.LockdownAdd range)) }
     {
-        if self.lockdown.meets(&[range]) {
+        if self.lockdown().meets(&[range]) {
             return Some(Code::Exists);
         }
-        if self.lockdown.len() >= MOST_LOCKDOWN_RANGES {
+        if self.lockdown().len() >= MOST_LOCKDOWN_RANGES {
             return Some(Code::NoSpace);
         }
         None
     }
 
     fn lockdown_remove_refusal(&self, range: UidRange) -> Option<Code>
-        ensures { result ≡ step.refusal self.now (Command.LockdownRemove range) }
+        ensures { result ≡
+            step.first_that_holds (step.reasons self.now (Command.LockdownRemove range)) }
     {
-        if !self.lockdown.has(range) {
+        if !self.lockdown().has(range) {
             return Some(Code::NoEntry);
         }
         None
     }
 
-    /// Why the command is refused, or none where it is accepted.
-    pub fn refusal_of(&self, command: &Command) -> Option<Code>
-        ensures { result ≡ step.refusal self.now command.now }
+    // Why the command is refused, but for the number of rules that the state after it would have.
+    pub(crate) fn reason_of(&self, command: &Command) -> Option<Code>
+        ensures { result ≡ step.first_that_holds (step.reasons self.now command.now) }
     {
         match *command {
             Command::LinkAdd { name, index } => self.link_add_refusal(&name, index),

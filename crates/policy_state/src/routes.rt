@@ -4,6 +4,7 @@ ghost use Rattle.std.specs.List.{list_any};
 ghost use Rattle.fib_table.specs.Table.{has_key};
 ghost use Rattle.networks.specs.Network.{is_keyed_by, routes_by};
 ghost use Rattle.policy_state.specs.Step as step;
+ghost use Rattle.policy_state.specs.Step.{table_routes_of};
 
 use commands::Way;
 use networks::{LinkRoute, Network};
@@ -49,6 +50,16 @@ pub fn key_of(link: u16, prefix: Prefix, special: bool) -> Route
     route_of(link, prefix, way)
 }
 
+// Whether the route is unreachable or throw.
+pub(crate) fn is_special(way: Way) -> bool
+    ensures { result ≡ step.is_special way }
+{
+    match way {
+        Way::Direct | Way::Via(_) => false,
+        Way::Unreachable | Way::Throw => true,
+    }
+}
+
 // Whether a gateway is of another family than the prefix.
 pub(crate) fn is_way_of_other_family(prefix: Prefix, way: Way) -> bool
     ensures { result ≡ step.is_way_of_other_family prefix way }
@@ -78,9 +89,13 @@ fn count_by(routes: &[LinkRoute], link: u16) -> usize
     routes.iter().filter(|route| route.link == link).count()
 }
 
-// How many routes the interface has.
-pub(crate) fn count_of(network: &Network, link: u16) -> usize
-    ensures { result ≡ length (routes_by link network.now.routes) }
+// How many routes the table of the interface has.
+pub(crate) fn count_in_table(network: &Network, link: u16) -> usize
+    ensures { result ≡ length (table_routes_of network.now link) }
 {
-    count_by(network.routes.as_slice(), link)
+    if network.kind.is_local() {
+        network.routes.as_slice().len()
+    } else {
+        count_by(network.routes.as_slice(), link)
+    }
 }

@@ -1,4 +1,4 @@
-use Rattle.policy_state.proofs.TableLevels.{table-rises, table-behind_own}
+use Rattle.policy_state.proofs.Tables.{table-rises, table-behind_own}
 use Rattle.policy_state.proofs.laws.table_rises.Goals as goal
 
 pub returns-clause-rises : goal.returns-clause-rises
