@@ -1,8 +1,8 @@
 -- The first state is good; and so is one that has something for each row, which shows that the conditions can be met.
-use Rattle.std.proofs.Common.{◌≡◌, ◌≤◌, ℕ, None, Some, List, [], ◌∷◌, refl, map, lit≤, true, false, arith}
+use Rattle.std.proofs.Common.{[], refl, lit≤, arith}
 use Rattle.policy_state.specs.Counts.{rule_count}
 use Rattle.policy_state.specs.Good.{IsWellFormed, IsGood}
-use Rattle.policy_state.specs.View.{StateView, start, loopback_link}
+use Rattle.policy_state.specs.View.{start}
 use Rattle.networks.specs.Network.{local_network}
 
 pub formed-start : IsWellFormed start

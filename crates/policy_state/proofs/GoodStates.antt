@@ -1,8 +1,8 @@
 -- What the tests of a good state say of what stands in its lists.
 use Rattle.std.proofs.Common.{◌≡◌, ◌∙◌, ◌==◌, ◌≤◌, ◌<◌, ℕ, Bool, true, false, Option, Some, None, List, [], ◌∷◌, refl, sym, ap, subst, inl, inr, arith}
-use Rattle.std.specs.Prelude.{◌⊎◌, ◌&&◌, ◌||◌, not, nat_le, nat_lt}
-use Rattle.std.specs.List.{list_all, list_any, AllByRecursion}
-use Rattle.std.proofs.lemmas.Bool.{false≢true, and_parts, and_from, or_parts, eqb-true, eq-eqb, leb-true, le-leb, ltb-true}
+use Rattle.std.specs.Prelude.{◌⊎◌, ◌&&◌, ◌||◌, not, nat_le}
+use Rattle.std.specs.List.{list_all, AllByRecursion}
+use Rattle.std.proofs.lemmas.Bool.{false≢true, and_parts, and_from, or_parts, eqb-true, eq-eqb, leb-true, le-leb}
 use Rattle.prefixes.specs.Route.{link_of}
 use Rattle.uid_ranges.specs.Range.{holds, meets}
 use Rattle.uid_ranges.specs.declared.range.UidRange.{UidRange}
@@ -217,3 +217,7 @@ module _ (s : StateView) (good : IsWellFormed s) where
           of : (o : Option ℕ) → (elim o [ Some link ↦ link == r.link | None ↦ false ]) ≡ true → o ≡ Some r.link
           of None g = absurd (false≢true g)
           of (Some link) g = ap Some (eqb-true link r.link g)
+
+-- networks of one id are the same
+pub same-ids : (s : StateView) → IsWellFormed s → (m n : Network) → Has s.networks m → Has s.networks n → m.id ≡ n.id → m ≡ n
+same-ids s formed = (distinct s formed).ids

@@ -1,23 +1,18 @@
 -- A table in order: the rows follow one another, and a row whose rules have one priority is in order as it comes.
-use Rattle.std.proofs.Common.{◌≡◌, ◌∙◌, ◌+◌, ◌≤◌, Bool, true, false, Option, unwrap_or, List, [], ◌∷◌, ◌++◌, refl, sym, ap, subst, inl, inr, map, arith, leb, ◌==◌, ℕ, zero, suc, ◌<◌, Some, ap₂}
-use Rattle.std.specs.Prelude.{flat_map, if◌then◌else◌, ◌&&◌, ℕ, ◌==◌, filter, Option, Some, None, List, [], ◌∷◌, map}
-use Rattle.std.specs.List.{list_all, list_any}
+use Rattle.std.proofs.Common.{◌≡◌, ◌∙◌, ◌+◌, ◌≤◌, Bool, true, false, List, [], ◌∷◌, ◌++◌, refl, sym, ap, subst, inl, inr, arith, leb, ◌==◌, ℕ, zero, suc, ◌<◌}
+use Rattle.std.specs.Prelude.{flat_map, if◌then◌else◌, ℕ, ◌==◌, filter, List, [], ◌∷◌}
+use Rattle.std.specs.List.{list_all}
 use Rattle.std.proofs.lemmas.Bool.{cases_Bool, and_parts, leb-true, leb-false, false≢true, false_from_ne_true, eqb-true, eq-eqb}
-use Rattle.rule_law.specs.Rules.{Kind, walk}
+use Rattle.rule_law.specs.Rules.{Kind}
 use Rattle.rule_match.specs.declared.rule.Rule.{Rule}
 use Rattle.rule_kinds.specs.Kind.{rule_kind}
-use Rattle.policy_state.proofs.RowTests.{is_not_above, rise, rows_rise, is_fit}
-use Rattle.policy_state.specs.View.{StateView, Ranked, Network, TetherPair}
-use Rattle.policy_state.specs.Rows.{Item, Row, items, default_of, NetworkSet, EachRange, EachOf, items_in, items_at, picks, permission_of, ranges_of, user_item, numbers_from, OnePer, Once, EachLockdown, EachPair, NetworkPart, Whole, EachInterface, EachDefault, nothing, net_item, link_item, split_item, range_item, pair_item}
+use Rattle.policy_state.proofs.RowTests.{is_not_above, rise, rows_rise}
+use Rattle.policy_state.specs.View.{StateView}
+use Rattle.policy_state.specs.Rows.{Item, Row, items, numbers_from}
 use Rattle.policy_state.specs.Table.{put, in_order, rule_of, rules_in, rows, table_by_rows, priority_at}
 use Rattle.policy_state.proofs.Owners.{Has, Owners, AreOwners, OfMap, of_map, OfFlat, of_flat}
 use Rattle.policy_state.proofs.OneNetwork.{rank-few}
-use Rattle.policy_state.proofs.AlikeRules.{OfSomeRow, of_row, all-has, fits, item-fits}
-use Rattle.rule_match.specs.declared.verdict.Verdict.{Verdict}
-use Rattle.std.specs.Option.{option_or}
-use Rattle.rule_match.specs.declared.packet.Packet.{Packet}
-use Rattle.fwmark.specs.declared.permission.Permission.{Permission}
-use Rattle.uid_ranges.specs.declared.range.UidRange.{UidRange}
+use Rattle.policy_state.proofs.AlikeRules.{OfSomeRow, of_row, all-has}
 
 module _ {R : Type 0} (k : Kind R) where
   pub put-front : (x : R) (ys : List R) → ((y : R) → Has ys y → k.priority x ≤ k.priority y) → put k x ys ≡ x ∷ ys

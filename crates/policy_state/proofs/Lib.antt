@@ -11,3 +11,12 @@ pub mod Sorted
 pub mod GoodStates
 pub mod Tables
 pub mod FirstState
+pub mod Lists
+pub mod LinkLists
+pub mod Accepted
+pub mod NetworkChanges
+pub mod Puts
+pub mod RouteLists
+pub mod Goodness
+pub mod CountChanges
+pub mod Limits

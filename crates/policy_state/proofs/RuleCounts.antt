@@ -1,5 +1,7 @@
 -- The table has as many rules as the lengths say.
-use Rattle.std.proofs.Common.{◌≡◌, ◌∙◌, ℕ, ◌+◌, ◌*◌, suc, Bool, true, false, List, [], ◌∷◌, length, map, refl, sym, ap, ap₂, inl, inr, arith, leb}
+use Rattle.std.proofs.lemmas.Option.{slice_get_within, get_or_from_slice_get}
+use Rattle.std.proofs.lemmas.List.Sums.{sum_by_more}
+use Rattle.std.proofs.Common.{Some, slice_get, take, ◌<◌, ◌≡◌, ◌∙◌, ℕ, ◌+◌, ◌*◌, suc, Bool, true, false, List, [], ◌∷◌, length, map, refl, sym, ap, ap₂, inl, inr, arith, leb}
 use Rattle.std.specs.Prelude.{flat_map, sum_by, if◌then◌else◌}
 use Rattle.std.proofs.lemmas.Bool.{cases_Bool}
 use Rattle.std.proofs.lemmas.List.{length-append, length-map}
@@ -50,3 +52,10 @@ module _ (s : StateView) where
 
   pub table-count : length (table_by_rows s) ≡ count_by_rows s
   table-count = length-order rule_kind (flat_map (rules_in s) rows) ∙ length-flat (rules_in s) (λ (row : Row). count_of row.per s) rows (λ row. length-map (items row.per s) (rule_of row) ∙ row-items row.per)
+
+-- one more item of a sum
+pub sum-more : {N : Type 0} (f : N → ℕ) (items : List N) (place : ℕ) (item : N) → slice_get items place ≡ Some item
+    → sum_by f (take (place + 1) items) ≡ sum_by f (take place items) + f item
+sum-more f items place item h =
+    let within : place < length items = slice_get_within items place item h in
+    sum_by_more f items place item within ∙ ap (λ n. sum_by f (take place items) + f n) (get_or_from_slice_get items place item item h)

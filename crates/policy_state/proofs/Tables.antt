@@ -1,5 +1,5 @@
 -- The rule table of a state: it rises, and past the kernel's own rule. Proofs that don't open the table go by these.
-use Rattle.std.proofs.Common.{◌≡◌, ℕ, ◌≤◌, List, refl, sym, subst, arith, true}
+use Rattle.std.proofs.Common.{◌≡◌, ◌≤◌, refl, sym, subst, arith}
 use Rattle.rule_kinds.specs.Kind.{rule_kind}
 use Rattle.rule_law.specs.Rules.{Rises, NoneBelow}
 use Rattle.rule_match.specs.declared.rule.Rule.{Rule}
@@ -9,10 +9,9 @@ use Rattle.policy_state.specs.View.{StateView}
 use Rattle.policy_state.proofs.Sorted.{Rises-in_order}
 use Rattle.std.specs.Prelude.{nat_le, flat_map}
 use Rattle.std.proofs.lemmas.Bool.{leb-true}
-use Rattle.rule_law.specs.Rules.{has}
 use Rattle.rule_law.proofs.Orders.{NoneBelow-from}
 use Rattle.policy_state.specs.Rows.{Row}
-use Rattle.policy_state.specs.Table.{rows, rule_of, rules_in, priority_at}
+use Rattle.policy_state.specs.Table.{rows, rules_in, priority_at}
 use Rattle.policy_state.proofs.AlikeRules.{OfSomeRow, of_table, all-has}
 use Rattle.policy_state.proofs.RowTests.{each_past}
 

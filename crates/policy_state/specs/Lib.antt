@@ -5,3 +5,5 @@ pub mod Table
 pub mod Counts
 pub mod Good
 pub mod Step
+pub mod Touched
+pub mod TouchedCounts

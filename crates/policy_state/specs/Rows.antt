@@ -15,10 +15,10 @@ pub use Rattle.policy_state.specs.declared.row.Target.{Target}
 pub use Rattle.policy_state.specs.declared.row.Target.TheVariants.{ToLink, ToLocal, Prohibits, Refuses}
 pub use Rattle.policy_state.specs.declared.row.Row.{Row}
 pub use Rattle.networks.specs.Kinds.{permission_of, ranges_of, class_of, is_free, is_secure, is_bypass}
-use Rattle.std.specs.Prelude.{ℕ, zero, suc, ◌==◌, ◌&&◌, Bool, true, false, List, [], ◌∷◌, map, flat_map, Option, Some, None, find, if◌then◌else◌}
+use Rattle.std.specs.Prelude.{ℕ, zero, suc, ◌==◌, ◌&&◌, Bool, false, List, [], ◌∷◌, map, flat_map, Option, Some, None, find, if◌then◌else◌}
 use Rattle.fwmark.specs.declared.permission.Permission.{Permission}
 use Rattle.uid_ranges.specs.declared.range.UidRange.{UidRange}
-use Rattle.policy_state.specs.View.{Ranked, Kind, Local, Physical, Virtual, Network, TetherPair, StateView}
+use Rattle.policy_state.specs.View.{Ranked, Network, TetherPair, StateView}
 use Rattle.fwmark.specs.declared.permission.Permission.TheVariants as needs
 
 -- n numbers from the first one on

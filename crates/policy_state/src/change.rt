@@ -164,7 +164,8 @@ impl State {
         let Some(network) = self.networks().get(net) else {
             return self.parts.copy();
         };
-        self.with_network(with_link(network, link)?)
+        let network = with_link(network, link)?;
+        self.with_network(network)
     }
 
     fn route_added(
@@ -220,7 +221,8 @@ impl State {
         let Some(network) = self.networks().get(net) else {
             return self.parts.copy();
         };
-        self.with_network(with_permission(network, permission)?)
+        let network = with_permission(network, permission)?;
+        self.with_network(network)
     }
 
     fn lockdown_added(&self, range: UidRange) -> Result<Parts, AllocError>

@@ -1,18 +1,19 @@
 //! How many rules a state has, without making them.
-ghost use Rattle.std.specs.Prelude.{◌≡◌, ◌≤◌, length, sum_by, map, find};
-ghost use Rattle.std.specs.List.{AllByRecursion};
+ghost use Rattle.std.specs.Prelude.{◌≡◌, ◌≤◌, ◌*◌, length, sum_by};
 ghost use Rattle.std.specs.Option.{option_copied};
-ghost use Rattle.networks.specs.Kinds.{class_of, ranges_of};
 ghost use Rattle.policy_state.specs.Counts.{count_in, count_at, count_per, rule_count};
 ghost use Rattle.policy_state.specs.Good.{AreNetworks, IsNetwork, IsWellFormed};
 ghost use Rattle.policy_state.specs.Parts.{view_of};
 ghost use Rattle.policy_state.specs.Rows.{Row, is_default, links_of, default_among, picks};
 ghost use Rattle.policy_state.specs.Table.{rows};
+ghost use Rattle.policy_state.specs.Touched.{touched};
+ghost use Rattle.policy_state.specs.TouchedCounts.{links_after, count_per_after};
 
 use crate::parts::Parts;
-use crate::row::{NetworkPart, NetworkSet, OnePer};
+use crate::row::{NetworkPart, NetworkSet, OnePer, Row};
 use crate::rows::ROWS;
 use crate::state::State;
+use crate::touch::{Touch, interfaces_after, is_free_after};
 use networks::{Network, Networks};
 
 /// Whether this is the id of the default network.
@@ -40,12 +41,32 @@ pub fn picks(set: NetworkSet, default: Option<u16>, network: &Network) -> bool
     }
 }
 
+/// The same after the change.
+fn picks_after(touch: Touch, set: NetworkSet, default: Option<u16>, network: &Network) -> bool
+    ensures { result ≡ picks set default (touched touch network.now) }
+{
+    match set {
+        NetworkSet::OfFree => is_free_after(touch, network),
+        NetworkSet::OfLocal
+        | NetworkSet::OfPhysical
+        | NetworkSet::OfDefault
+        | NetworkSet::OfVirtual
+        | NetworkSet::OfSecure
+        | NetworkSet::OfBypass => picks(set, default, network),
+    }
+}
+
 /// The default network.
 pub fn default_network(networks: &Networks, default: Option<u16>) -> Option<&Network>
     requires { AreNetworks networks.now }
     ensures { option_copied result ≡ default_among networks.now default }
 {
-    let network = networks.get(default?)?;
+    let Some(id) = default else {
+        return None;
+    };
+    let Some(network) = networks.get(id) else {
+        return None;
+    };
     if network.kind.is_physical() {
         Some(network)
     } else {
@@ -54,35 +75,37 @@ pub fn default_network(networks: &Networks, default: Option<u16>) -> Option<&Net
 }
 
 /// How many rules a row has for this part of a network, where the default network has this number of interfaces.
-fn count_in(part: NetworkPart, links: u64, network: &Network) -> u64
-    requires few { links ≤ 8 }
+fn count_in(touch: Touch, part: NetworkPart, links: u64, network: &Network) -> u64
+    requires few { links ≤ 9 }
     requires network { IsNetwork network.now }
-    ensures value { result ≡ count_in part links network.now }
-    ensures few { result ≤ 8000 }
+    ensures value { result ≡ count_in part links (touched touch network.now) }
+    ensures few { result ≤ 9000 }
 {
-    let interfaces = network.interfaces.as_slice().len() as u64;
     match part {
         NetworkPart::Whole => 1,
-        NetworkPart::EachInterface => interfaces,
-        NetworkPart::EachRange => interfaces * network.kind.ranges().len() as u64,
+        NetworkPart::EachInterface => interfaces_after(touch, network),
+        NetworkPart::EachRange => {
+            interfaces_after(touch, network) * network.kind.ranges().len() as u64
+        }
         NetworkPart::EachDefault => links,
     }
 }
 
 fn count_at(
+    touch: Touch,
     set: NetworkSet,
     part: NetworkPart,
     default: Option<u16>,
     links: u64,
     network: &Network,
 ) -> u64
-    requires few { links ≤ 8 }
+    requires few { links ≤ 9 }
     requires network { IsNetwork network.now }
-    ensures value { result ≡ count_at set part default links network.now }
-    ensures few { result ≤ 8000 }
+    ensures value { result ≡ count_at set part default links (touched touch network.now) }
+    ensures few { result ≤ 9000 }
 {
-    if picks(set, default, network) {
-        count_in(part, links, network)
+    if picks_after(touch, set, default, network) {
+        count_in(touch, part, links, network)
     } else {
         0
     }
@@ -90,78 +113,86 @@ fn count_at(
 
 /// How many rules a row has for all networks.
 fn count_each(
+    touch: Touch,
     set: NetworkSet,
     part: NetworkPart,
     default: Option<u16>,
     links: u64,
     networks: &Networks,
 ) -> u64
-    requires few { links ≤ 8 }
+    requires few { links ≤ 9 }
     requires networks { AreNetworks networks.now }
-    ensures value { result ≡ sum_by (count_at set part default links) networks.now }
-    ensures few { result ≤ 8000000 }
+    ensures value { result ≡
+        sum_by (λ n. count_at set part default links (touched touch n)) networks.now }
+    ensures few { result ≤ 9000000 }
 {
     let mut count = 0;
     for place in 0..networks.len() {
         if let Some(network) = networks.at(place) {
-            count += count_at(set, part, default, links, network);
+            count += count_at(touch, set, part, default, links, network);
         }
     }
     count
 }
 
-fn count_row(per: OnePer, links: u64, parts: &Parts) -> u64
-    requires few { links ≤ 8 }
+fn count_row(touch: Touch, per: OnePer, links: u64, ranges: u64, parts: &Parts) -> u64
+    requires few { links ≤ 9 }
+    requires few_ranges { ranges ≤ 1001 }
     requires formed { IsWellFormed (view_of parts.now) }
-    ensures value { result ≡ count_per per parts.now.default links
-        (length parts.now.lockdown) (length parts.now.pairs.items) parts.now.networks }
-    ensures few { result ≤ 8000000 }
+    ensures value { result ≡ count_per_after touch per links ranges (view_of parts.now) }
+    ensures few { result ≤ 9000000 }
 {
     match per {
         OnePer::Once => 1,
-        OnePer::EachLockdown => parts.lockdown.len() as u64,
+        OnePer::EachLockdown => ranges,
         OnePer::EachPair => parts.pairs.len() as u64,
         OnePer::EachOf(set, part) => {
-            count_each(set, part, parts.default, links, &parts.networks)
+            count_each(touch, set, part, parts.default, links, &parts.networks)
         }
     }
 }
 
-fn default_links(parts: &Parts) -> u64
+/// How many interfaces the default network has after the change.
+fn default_links(touch: Touch, parts: &Parts) -> u64
     requires { IsWellFormed (view_of parts.now) }
-    ensures value { result ≡ length (links_of (default_among parts.now.networks parts.now.default)) }
-    ensures few { result ≤ 8 }
+    ensures value { result ≡ links_after touch (view_of parts.now) }
+    ensures few { result ≤ 9 }
 {
     match default_network(&parts.networks, parts.default) {
-        Some(network) => network.interfaces.as_slice().len() as u64,
+        Some(network) => interfaces_after(touch, network),
         None => 0,
     }
 }
 
-fn count_rows(links: u64, parts: &Parts) -> u64
-    requires few { links ≤ 8 }
+fn count_rows(touch: Touch, some: &[Row], links: u64, ranges: u64, parts: &Parts) -> u64
+    requires few_rows { length some.now ≤ 22 }
+    requires few { links ≤ 9 }
+    requires few_ranges { ranges ≤ 1001 }
     requires formed { IsWellFormed (view_of parts.now) }
-    ensures { result ≡ sum_by (λ (row : Row). count_per row.per parts.now.default links
-        (length parts.now.lockdown) (length parts.now.pairs.items) parts.now.networks) rows }
+    ensures { result ≡ sum_by (λ (row : Row). count_per_after touch row.per links ranges
+        (view_of parts.now)) some.now }
 {
     let mut count = 0;
-    for row in &ROWS {
-        count += count_row(row.per, links, parts);
+    for row in some {
+        count += count_row(touch, row.per, links, ranges, parts);
     }
     count
 }
 
-/// How many rules the state of these parts has.
-pub(crate) fn count_rules(parts: &Parts) -> u64
-    requires { IsWellFormed (view_of parts.now) }
-    ensures { result ≡ rule_count (view_of parts.now) }
+/// How many rules the state of these parts has after the change, and with so many ranges locked down.
+pub(crate) fn count_after(touch: Touch, ranges: u64, parts: &Parts) -> u64
+    requires few_ranges { ranges ≤ 1001 }
+    requires formed { IsWellFormed (view_of parts.now) }
+    ensures { result ≡ sum_by (λ (row : Row). count_per_after touch row.per
+        (links_after touch (view_of parts.now)) ranges (view_of parts.now)) rows }
 {
-    count_rows(default_links(parts), parts)
+    count_rows(touch, &ROWS, default_links(touch, parts), ranges, parts)
 }
 
 /// How many rules the kernel has in each family for the state, beside its own. Takes no memory.
 pub fn rule_count(state: &State) -> u64
     ensures { result ≡ rule_count state.now }
 {
-    count_rules(&state.parts)
+    let ranges = state.lockdown().len() as u64;
+    count_after(Touch::Nothing, ranges, &state.parts)
 }

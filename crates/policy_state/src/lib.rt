@@ -14,6 +14,7 @@ mod rows;
 mod state;
 mod step;
 mod tether;
+mod touch;
 mod users;
 
 pub use commands::{Command, Way};

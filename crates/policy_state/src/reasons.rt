@@ -1,16 +1,19 @@
 // Why commands are refused: for each the code of the first reason that holds.
-ghost use Rattle.std.specs.Prelude.{◌≡◌, ◌||◌, ◌==◌, None, Some, OnOk, IfOk, IfErr, codes};
+ghost use Rattle.std.specs.Prelude.{◌≡◌, ◌≤◌, ◌||◌, ◌==◌, None, Some, OnOk, IfOk, IfErr, codes};
 ghost use Rattle.std.specs.List.{list_any};
 ghost use Rattle.std.specs.Str.{bytes_eq};
 ghost use Rattle.fwmark.specs.declared.permission.Permission.{Permission};
 ghost use Rattle.networks.specs.Lists.{find_id};
 ghost use Rattle.policy_state.specs.Step as step;
+ghost use Rattle.policy_state.specs.TouchedCounts.{is_past_limit};
 ghost use Rattle.policy_state.specs.View.{link_named};
 
+use crate::count::count_after;
 use crate::routes::{
     count_in_table, has_key, is_special, is_way_of_other_family, key_of, route_of,
 };
 use crate::state::State;
+use crate::touch::Touch;
 use commands::{Command, Way};
 use net_names::{Code, Name};
 use networks::Network;
@@ -31,6 +34,9 @@ const MOST_ROUTES: usize = 16384;
 
 /// The most ranges that are locked down at a time.
 const MOST_LOCKDOWN_RANGES: usize = 1000;
+
+/// The most rules that a kernel is given in each family.
+const MOST_RULES: u64 = 40000;
 
 /// The least id of a network that can be created.
 const LEAST_ID: u16 = 100;
@@ -266,5 +272,51 @@ impl State {
             Command::LockdownAdd { range } => self.lockdown_add_refusal(range),
             Command::LockdownRemove { range } => self.lockdown_remove_refusal(range),
         }
+    }
+
+    // Whether the state after the change, with this many ranges locked down, would have too many rules.
+    fn is_past_limit(&self, touch: Touch, ranges: u64) -> bool
+        requires { ranges ≤ 1001 }
+        ensures { result ≡ is_past_limit touch ranges self.now }
+    {
+        count_after(touch, ranges, &self.parts) > MOST_RULES
+    }
+
+    // Whether the state after a command that no other reason is against would have too many rules.
+    fn has_too_many_rules(&self, command: &Command) -> bool
+        requires { step.first_that_holds (step.reasons self.now command.now) ≡ None }
+        ensures { result ≡ step.has_too_many_rules self.now command.now }
+    {
+        let ranges = self.lockdown().len() as u64;
+        match *command {
+            Command::InterfaceAdd { net, name } => match self.link_named(&name) {
+                Some(link) => self.is_past_limit(Touch::Interface { net, link }, ranges),
+                None => false,
+            },
+            Command::PermissionNetwork { net, permission } => {
+                self.is_past_limit(Touch::Permission { net, permission }, ranges)
+            }
+            Command::LockdownAdd { .. } => self.is_past_limit(Touch::Nothing, ranges + 1),
+            // by all others no rule comes
+            Command::LinkAdd { .. } => false,
+            Command::LinkRemove { .. } => false,
+            Command::CreatePhysical { .. } => false,
+            Command::RouteAdd { .. } => false,
+            Command::RouteRemove { .. } => false,
+            Command::LockdownRemove { .. } => false,
+        }
+    }
+
+    /// Why the command is refused, or none where it is accepted.
+    pub fn refusal_of(&self, command: &Command) -> Option<Code>
+        ensures { result ≡ step.refusal self.now command.now }
+    {
+        if let Some(code) = self.reason_of(command) {
+            return Some(code);
+        }
+        if self.has_too_many_rules(command) {
+            return Some(Code::NoSpace);
+        }
+        None
     }
 }

@@ -3,14 +3,10 @@ ghost use Rattle.std.specs.Prelude.{◌≡◌, ◌↔◌, None, Some, Err, IfOk,
 ghost use Rattle.policy_state.specs.Good.{IsGood};
 ghost use Rattle.policy_state.specs.Step.{refusal, changed};
 
-use crate::count::count_rules;
 use crate::fault::StepFault;
 use crate::state::State;
 use commands::Command;
 use net_names::Code;
-
-/// The most rules that a kernel is given in each family.
-const MOST_RULES: u64 = 40000;
 
 impl State {
     /// The state after the command.
@@ -23,18 +19,14 @@ impl State {
         ensures refused { (code : Code) → (result ≡ Err (StepFault.Refused code)) ↔
             (refusal self.now command.now ≡ Some code) }
     {
-        if let Some(code) = self.reason_of(command) {
+        let _parts = &self.parts;
+        if let Some(code) = self.refusal_of(command) {
             return Err(StepFault::Refused { code });
         }
-        let parts = match self.changed_by(command) {
-            Ok(parts) => parts,
-            Err(fault) => return Err(StepFault::Memory(fault)),
-        };
-        if count_rules(&parts) > MOST_RULES {
-            return Err(StepFault::Refused {
-                code: Code::NoSpace,
-            });
+        command.fits_types();
+        match self.changed_by(command) {
+            Ok(parts) => Ok(State { parts }),
+            Err(fault) => Err(StepFault::Memory(fault)),
         }
-        Ok(State { parts })
     }
 }

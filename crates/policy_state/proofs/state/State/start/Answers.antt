@@ -1,7 +1,7 @@
 use Rattle.std.proofs.Common.{◌≡◌, sym, subst, rules, None}
 use Rattle.policy_state.specs.Good.{IsGood}
 use Rattle.policy_state.specs.Parts.{view_of}
-use Rattle.policy_state.specs.View.{StateView, start}
+use Rattle.policy_state.specs.View.{start}
 use Rattle.policy_state.proofs.FirstState.{good-start}
 use Rattle.policy_state.proofs.state.State.start.Goals as goal
 
