@@ -32,7 +32,7 @@ use Rattle.rule_match.specs.declared.rule.Rule.{Rule}
 use Rattle.kernel_model.specs.Kind.{rule_kind}
 use Rattle.kernel_model.specs.State.{is_absent, is_present, is_route, rules_of, routes_of, own_rule, loopback, start as start_state}
 use Rattle.policy_state.specs.View.{start}
-use Rattle.policy_state.proofs.Goodness.{good-start}
+use Rattle.policy_state.proofs.FirstState.{good-start}
 use Rattle.net_control.specs.Started.{start_adds, IsStarted}
 use Rattle.net_control.specs.declared.controller.StartFault.TheVariants as fault
 use Rattle.kernel_model.specs.Journal.{replay, replay_from}

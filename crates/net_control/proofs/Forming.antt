@@ -15,7 +15,9 @@ use Rattle.net_control.specs.declared.controller.StartFault.{StartFault}
 use Rattle.net_control.specs.declared.controller.StartFault.TheVariants as fault
 use Rattle.turn_text.specs.declared.answer.Answer.{Answer}
 use Rattle.turn_text.specs.declared.answer.Answer.TheVariants as answer
-use Rattle.policy_state.specs.Table.{explicit_local_rule, local_rule, last_rule}
+use Rattle.networks.specs.Network.{local_network}
+use Rattle.policy_state.specs.Rows.{net_item, nothing}
+use Rattle.policy_state.specs.Table.{rule_of, explicit_local, local_links, last}
 use Rattle.commands.specs.declared.command.Command.{Command}
 
 grew-formed : (before after : KernelView) (es : List Entry) → after ≡ grown before es → AreWellFormed es → AreWellFormed before.journal → AreWellFormed after.journal
@@ -50,16 +52,16 @@ keeps_form (Err e) command old new before after asks is = same-formed before aft
 
 -- the start asks for three rules, each in both families
 start_adds-formed : AllByRecursion IsWellFormed start_adds
-start_adds-formed = (explicit, (explicit, (local, (local, (last, (last, tt))))))
+start_adds-formed = (explicit, (explicit, (local, (local, (refuses, (refuses, tt))))))
   where
-    explicit : IsWellFormedRule explicit_local_rule
+    explicit : IsWellFormedRule (rule_of explicit_local (net_item local_network))
     explicit = record { value = λ e. absurd cc; incoming = λ e. cc; outgoing = λ e. cc }
 
-    local : IsWellFormedRule local_rule
+    local : IsWellFormedRule (rule_of local_links nothing)
     local = record { value = λ e. refl; incoming = λ e. cc; outgoing = λ e. cc }
 
-    last : IsWellFormedRule last_rule
-    last = record { value = λ e. refl; incoming = λ e. cc; outgoing = λ e. cc }
+    refuses : IsWellFormedRule (rule_of last nothing)
+    refuses = record { value = λ e. refl; incoming = λ e. cc; outgoing = λ e. cc }
 
 none-formed : (k : KernelView) → k.journal ≡ [] → AreWellFormed k.journal
 none-formed k none = subst AreWellFormed (sym none) tt

@@ -23,7 +23,8 @@ use Rattle.policy_meaning.specs.Policy.{IsBarred, policy}
 use Rattle.policy_meaning.specs.Promise.{StaysIn}
 use Rattle.policy_state.specs.Step.{changed, refusal}
 use Rattle.policy_state.specs.Table.{rule_table, route_list}
-use Rattle.policy_state.specs.View.{StateView, IsGood, start}
+use Rattle.policy_state.specs.Good.{IsGood}
+use Rattle.policy_state.specs.View.{StateView, start}
 use Rattle.commands.specs.declared.command.Command.{Command}
 use Rattle.rule_law.specs.Plans.{GoesOverAndBack}
 use Rattle.rule_match.specs.declared.packet.Packet.{Packet}
@@ -116,7 +117,7 @@ same_entries before after xs ys is same = append_cancel_left before.journal xs y
 
 -- what lockdown promises of the policy
 abbrev pub BarredStaysIn : Type 0
-BarredStaysIn = (s : StateView) (packet : Packet) → IsBarred s packet → packet.uid.number ≢ 0 → StaysIn (policy s packet)
+BarredStaysIn = (s : StateView) (packet : Packet) → IsBarred s packet → packet.uid.number ≢ 0 → StaysIn s.networks (policy s packet)
 
 -- what the policy keeps in at every moment stays in
 pub locked : (before after : KernelView) (old new : StateView)
@@ -128,9 +129,9 @@ locked before after old new bars keeps entries grew packet was is user i within 
     same = same_entries before after keeps.entries entries keeps.grew grew
 
     stays_in : (walk_along (state_of before) packet keeps.entries i ≡ policy old packet) ⊎ (walk_along (state_of before) packet keeps.entries i ≡ policy new packet)
-        → StaysIn (walk_along (state_of before) packet entries i)
-    stays_in (inl e) = subst (λ (es : List Entry). StaysIn (walk_along (state_of before) packet es i)) same (subst StaysIn (sym e) (bars old packet was user))
-    stays_in (inr e) = subst (λ (es : List Entry). StaysIn (walk_along (state_of before) packet es i)) same (subst StaysIn (sym e) (bars new packet is user))
+        → StaysIn (old.networks ++ new.networks) (walk_along (state_of before) packet entries i)
+    stays_in (inl e) = subst (λ (es : List Entry). StaysIn (old.networks ++ new.networks) (walk_along (state_of before) packet es i)) same (subst (StaysIn (old.networks ++ new.networks)) (sym e) (stays_in-front old.networks new.networks (policy old packet) (bars old packet was user)))
+    stays_in (inr e) = subst (λ (es : List Entry). StaysIn (old.networks ++ new.networks) (walk_along (state_of before) packet es i)) same (subst (StaysIn (old.networks ++ new.networks)) (sym e) (stays_in-end old.networks new.networks (policy new packet) (bars new packet is user)))
 
 -- that the table means the policy
 abbrev pub TableMeansPolicy : Type 0
@@ -140,7 +141,7 @@ TableMeansPolicy = (s : StateView) (k : KernelState) (packet : Packet) → IsGoo
 pub sends : (controller : ControllerView) (kernel : KernelView) → TableMeansPolicy → BarredStaysIn → IsKept controller kernel → SendsByPolicy controller kernel
 sends controller kernel means bars kept = record {
   everywhere = everywhere;
-  locked = λ running packet barred user. subst StaysIn (sym (everywhere running packet)) (bars controller.state packet barred user);
+  locked = λ running packet barred user. subst (StaysIn controller.state.networks) (sym (everywhere running packet)) (bars controller.state packet barred user);
 }
   where
     everywhere : controller.halted ≡ None → (packet : Packet) → walk (state_of kernel) packet ≡ policy controller.state packet

@@ -3,7 +3,8 @@ use Rattle.std.specs.Prelude.{◌≡◌, ℕ, Option, None}
 use Rattle.kernel_model.specs.Stands.{Stands}
 use Rattle.kernel_model.specs.View.{KernelView, state_of}
 use Rattle.policy_state.specs.Table.{rule_table, route_list}
-use Rattle.policy_state.specs.View.{StateView, IsGood}
+use Rattle.policy_state.specs.Good.{IsGood}
+use Rattle.policy_state.specs.View.{StateView}
 
 pub record ControllerView : Type 0 where
   pub state : StateView

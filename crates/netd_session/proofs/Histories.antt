@@ -98,7 +98,7 @@ module _ (before after : KernelView) (es rest : List Entry) (grew : after ≡ gr
   holds : (command : Option Command) (a : Result Answer AllocError) (old : StateView)
       → ((packet : Packet) → GoesOverAndBack (length es) (walk_along (state_of before) packet es) (policy old packet) (policy (asked_of old command) packet))
       → (RefusedNone before after → (packet : Packet) → GoesOver (length es) (walk_along (state_of before) packet es) (policy old packet) (policy (asked_of old command) packet))
-      → ((packet : Packet) → IsBarred old packet → IsBarred (asked_of old command) packet → packet.uid.number ≢ 0 → (i : ℕ) → i ≤ length es → StaysIn (walk_along (state_of before) packet es i))
+      → ((packet : Packet) → IsBarred old packet → IsBarred (asked_of old command) packet → packet.uid.number ≢ 0 → (i : ℕ) → i ≤ length es → StaysIn (old.networks ++ (asked_of old command).networks) (walk_along (state_of before) packet es i))
       → (((request : ℕ) → a ≢ Ok (answer.Halted request)) → (packet : Packet) → walk (state_of after) packet ≡ policy (behind (record { command = command; answer = a; old = old; from = 0; count = 0 })) packet)
       → ((request : ℕ) → a ≡ Ok (answer.KernelRefused request) → state_of after ≡ state_of before)
       → ((c : Command) → command ≡ Some c → (a ≡ Ok answer.Done) ↔ ((code_of old before.journal c ≡ None) × RefusedNone before after × BrokeNone before after))
@@ -106,7 +106,7 @@ module _ (before after : KernelView) (es rest : List Entry) (grew : after ≡ gr
   holds command a old policies once barred sends same done = record {
     keeps_policy = λ packet. same_over_and_back (at_walk packet) (policies packet);
     once = λ none packet. same_over (at_walk packet) (once (refused none) packet);
-    keeps_lockdown = λ packet was is user i within. subst StaysIn (sym (at_walk packet i within)) (barred packet was is user i within);
+    keeps_lockdown = λ packet was is user i within. subst (StaysIn (old.networks ++ (asked_of old command).networks)) (sym (at_walk packet i within)) (barred packet was is user i within);
     sends = λ runs packet. ap (λ (j : List Entry). walk (replay j) packet) all ∙ sends runs packet;
     as_before = λ request is. ap replay all ∙ same request is ∙ sym (ap replay front);
     carried_out = λ c is. (
@@ -205,7 +205,7 @@ lies_in journal parts i found =
       inside = found.inside;
       keeps_policy = λ packet. subst (λ (n : ℕ). (walk (moment journal n) packet ≡ policy p.old packet) ⊎ (walk (moment journal n) packet ≡ policy (asked p) packet)) at
           (at_either (found.holds.keeps_policy packet) (i - p.from) within);
-      keeps_lockdown = λ packet was is user. subst (λ (n : ℕ). StaysIn (walk (moment journal n) packet)) at (found.holds.keeps_lockdown packet was is user (i - p.from) within);
+      keeps_lockdown = λ packet was is user. subst (λ (n : ℕ). StaysIn (p.old.networks ++ (asked p).networks) (walk (moment journal n) packet)) at (found.holds.keeps_lockdown packet was is user (i - p.from) within);
     }
 
 -- there's a part

@@ -115,9 +115,11 @@ pub record Holds (journal : List Entry) (p : Part) : Type 0 where
   -- and never back where no addition was refused
   pub once : RefusesNone journal p → (packet : Packet) → GoesOver p.count (way journal p packet)
       (policy p.old packet) (policy (asked p) packet)
-  -- what a user other than root who is locked down in both states sends unprotected leaves by no link
+  -- what a user other than root who is locked down in both states sends unprotected leaves by no link but one
+  -- of a VPN that is secure in one of them
   pub keeps_lockdown : (packet : Packet) → IsBarred p.old packet → IsBarred (asked p) packet
-      → packet.uid.number ≢ 0 → (i : ℕ) → i ≤ p.count → StaysIn (way journal p packet i)
+      → packet.uid.number ≢ 0 → (i : ℕ) → i ≤ p.count
+      → StaysIn (p.old.networks ++ (asked p).networks) (way journal p packet i)
   -- after it each packet goes where the policy says
   pub sends : Runs p → (packet : Packet)
       → way journal p packet p.count ≡ policy (behind p) packet
@@ -140,9 +142,11 @@ pub record LiesIn (journal : List Entry) (parts : List Part) (i : ℕ) : Type 0 
   pub keeps_policy : (packet : Packet)
       → (walk (moment journal i) packet ≡ policy part.old packet)
       ⊎ (walk (moment journal i) packet ≡ policy (asked part) packet)
-  -- what a user other than root who is locked down in both states sends unprotected leaves by no link
+  -- what a user other than root who is locked down in both states sends unprotected leaves by no link but one
+  -- of a VPN that is secure in one of them
   pub keeps_lockdown : (packet : Packet) → IsBarred part.old packet → IsBarred (asked part) packet
-      → packet.uid.number ≢ 0 → StaysIn (walk (moment journal i) packet)
+      → packet.uid.number ≢ 0
+      → StaysIn (part.old.networks ++ (asked part).networks) (walk (moment journal i) packet)
 
 -- The journal is the parts of the start and of the commands, one after the other.
 pub record History (s : Status) (turns : List Turn) (lines : List (List ℕ))

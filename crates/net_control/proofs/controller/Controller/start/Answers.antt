@@ -9,7 +9,7 @@ use Rattle.net_control.proofs.Forming.{start_formed}
 use Rattle.net_control.proofs.Once.{start_as_before, start_once}
 use Rattle.net_control.proofs.Policed.{begun, by_policy, started_sends}
 use Rattle.policy_meaning.specs.Policy.{policy}
-use Rattle.policy_state.proofs.Goodness.{good-start}
+use Rattle.policy_state.proofs.FirstState.{good-start}
 use Rattle.policy_state.specs.View.{start}
 use Rattle.rule_compile.specs.Asked.{started}
 use Rattle.rule_law.specs.Plans.{GoesOverAndBack}
