@@ -1,18 +1,14 @@
 ghost use Rattle.std.specs.Prelude.{◌≡◌, [], ◌∷◌, ◌++◌, ◌+◌, ◌<◌, ◌≤◌, IfOk, vec_len, vec_capacity};
 ghost use Rattle.kernel_model.specs.Journal.{entry};
-ghost use Rattle.std.specs.Option.{option_map};
-ghost use Rattle.prefixes.specs.Best.{answer};
-ghost use Rattle.kernel_model.specs.State.{routes_of};
-ghost use Rattle.kernel_model.specs.Walk.{walk_rules, gives, verdict_by};
 ghost use Rattle.sim_kernel.specs.Consistent.{IsConsistent};
 
 use crate::lists::{insert_rule, is_in, remove_rule};
 use crate::tables::Tables;
 use kernel_model::{
-    Armed, DEVICE_TABLE, Entry, EntryKind, Kernel, KernelFault, Request, verdict_by,
+    Armed, DEVICE_TABLE, Entry, EntryKind, FoundRule, Kernel, KernelFault, Request, next_in,
 };
 use prefixes::{Addr, Family, Route};
-use rule_match::{Action, Packet, Rule, Verdict};
+use rule_match::{Action, Packet, Rule};
 use std::alloc::{AllocError, Global};
 
 /// The rule that each family has from the start.
@@ -183,10 +179,10 @@ impl Kernel for SimKernel {
         Ok(())
     }
 
-    fn walk(&self, packet: &Packet) -> Verdict {
+    fn next_match(&self, packet: &Packet, from: u64) -> Option<FoundRule> {
         match packet.family() {
-            Family::V4 => walk_through(&self.rules4, &self.tables, packet),
-            Family::V6 => walk_through(&self.rules6, &self.tables, packet),
+            Family::V4 => next_in(&self.rules4, packet, from),
+            Family::V6 => next_in(&self.rules6, packet, from),
         }
     }
 
@@ -222,45 +218,6 @@ impl Kernel for SimKernel {
 
     fn entry_at(&self, place: u64) -> Option<Entry> {
         self.journal.get(place as usize).copied()
-    }
-}
-
-// What the first rule that matches and gives something gives.
-fn walk_through(rules: &[Rule], tables: &Tables, packet: &Packet) -> Verdict
-    ensures { result ≡ walk_rules tables.now.tables packet.now rules.now }
-{
-    for rule in rules {
-        if rule.matches(packet) {
-            if let Some(verdict) = given(rule.action, tables, packet) {
-                return verdict;
-            }
-        }
-    }
-    Verdict::Unreachable
-}
-
-// What a rule's action gives.
-fn given(action: Action, tables: &Tables, packet: &Packet) -> Option<Verdict>
-    ensures { result ≡ gives tables.now.tables action packet.now }
-{
-    match action {
-        Action::Prohibit => Some(Verdict::Prohibited),
-        Action::Unreachable => Some(Verdict::Unreachable),
-        Action::Table(number) => answered(tables, number, packet),
-    }
-}
-
-// What a table gives.
-fn answered(tables: &Tables, number: u32, packet: &Packet) -> Option<Verdict>
-    ensures { result ≡ option_map (verdict_by number)
-        (answer (routes_of number tables.now.tables) packet.now.dest packet.now.outgoing) }
-{
-    match tables.lookup(number, packet.dest(), packet.outgoing()) {
-        None => None,
-        Some(route) => match route.out.answer() {
-            None => None,
-            Some(answer) => Some(verdict_by(number, answer)),
-        },
     }
 }
 
