@@ -18,4 +18,4 @@ pub use next::next_in;
 pub use plan::Plan;
 pub use request::{Entry, EntryKind, Request};
 pub use step::Step;
-pub use walk::{DEVICE_TABLE, given, verdict_by};
+pub use walk::{DEVICE_TABLE, OWN_RULE, given, verdict_by};

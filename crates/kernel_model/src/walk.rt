@@ -7,10 +7,21 @@ ghost use Rattle.kernel_model.specs.Walk.{verdict_by, gives, walk};
 
 use crate::kernel::Kernel;
 use prefixes::Answer;
-use rule_match::{Action, Packet, Verdict};
+use rule_match::{Action, Packet, Rule, Verdict};
 
 /// The table of the device's own addresses.
 pub const DEVICE_TABLE: u32 = 255;
+
+/// The rule that each family has from the start.
+pub const OWN_RULE: Rule = Rule {
+    priority: 0,
+    mark: 0,
+    mask: 0,
+    incoming: None,
+    outgoing: None,
+    uids: None,
+    action: Action::Table(DEVICE_TABLE),
+};
 
 /// The verdict of a table's answer. What this table sends out by a link is for the device itself.
 pub fn verdict_by(table: u32, answer: Answer) -> Verdict

@@ -5,22 +5,11 @@ ghost use Rattle.sim_kernel.specs.Consistent.{IsConsistent};
 use crate::lists::{insert_rule, is_in, remove_rule};
 use crate::tables::Tables;
 use kernel_model::{
-    Armed, DEVICE_TABLE, Entry, EntryKind, FoundRule, Kernel, KernelFault, Request, next_in,
+    Armed, Entry, EntryKind, FoundRule, Kernel, KernelFault, OWN_RULE, Request, next_in,
 };
 use prefixes::{Addr, Family, Route};
-use rule_match::{Action, Packet, Rule};
+use rule_match::{Packet, Rule};
 use std::alloc::{AllocError, Global};
-
-/// The rule that each family has from the start.
-const OWN_RULE: Rule = Rule {
-    priority: 0,
-    mark: 0,
-    mask: 0,
-    incoming: None,
-    outgoing: None,
-    uids: None,
-    action: Action::Table(DEVICE_TABLE),
-};
 
 /// A kernel that keeps its rules and its tables in lists, and fails where it is told to. Its journal and its lists of
 /// rules have room for the same number of requests.
