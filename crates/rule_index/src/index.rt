@@ -1,12 +1,11 @@
-ghost use Rattle.std.specs.Prelude.{◌≡◌, [], ◌+◌, ◌<◌, ◌≤◌, length, slice_get, OnOk};
-ghost use Rattle.rule_law.specs.Rules.{placed, without};
-ghost use Rattle.kernel_model.specs.Kind.{rule_kind};
+ghost use Rattle.std.specs.Prelude.{◌≡◌, slice_get};
 ghost use Rattle.kernel_model.specs.Next.{next_match};
 ghost use Rattle.rule_index.specs.Index.{IsIndexed, listed_of};
 
 use crate::search::{first_same, least};
 use crate::sorted::{cut, place_of, put};
 use crate::spot::{Sorting, keyed_of, spot_by};
+use kernel_ledger::RuleStore;
 use kernel_model::FoundRule;
 use rule_match::{Packet, Rule};
 use std::alloc::{AllocError, Global};
@@ -38,11 +37,12 @@ impl Model for RuleIndex {
     ghost invariant = { λ x. IsIndexed x.rules.items x.order.items x.keyed.items };
 }
 
-impl RuleIndex {
-    /// No rules, and no room.
-    pub fn new(alloc: Global) -> RuleIndex
-        ensures { result.list ≡ [] }
-    {
+impl RuleStore for RuleIndex {
+    ghost rules = { λ index. index.list };
+
+    ghost room = { λ index. index.room };
+
+    fn empty(alloc: Global) -> Self {
         RuleIndex {
             rules: Vec::new(alloc),
             order: Vec::new(alloc),
@@ -50,12 +50,8 @@ impl RuleIndex {
         }
     }
 
-    /// Makes room for so many rules more. A number has 32 bits, so after 4,294,967,295 arrivals there is none.
-    pub fn reserve(&mut self, more: u64) -> Result<(), AllocError>
-        ensures list { self.new.list ≡ self.old.list }
-        ensures room { OnOk result (more ≤ self.new.room) }
-        ensures no_less { self.old.room ≤ self.new.room }
-    {
+    /// Makes room for this number of rules more. A number has 32 bits, so after 4,294,967,295 arrivals there is none.
+    fn reserve(&mut self, more: u64) -> Result<(), AllocError> {
         if more > (u32::MAX as u64).saturating_sub(self.rules.len() as u64) {
             return Err(AllocError);
         }
@@ -64,47 +60,30 @@ impl RuleIndex {
         self.keyed.reserve(more as usize)
     }
 
-    pub fn len(&self) -> usize
-        ensures { result ≡ length self.now.list }
-    {
-        self.order.len()
-    }
-
-    /// The rule at a place.
-    pub fn at(&self, place: usize) -> Option<Rule>
-        ensures { result ≡ slice_get self.now.list place }
-    {
-        rule_in(&self.rules, &self.order, &self.keyed, place)
-    }
-
-    /// Puts a rule in, in the room that is there.
-    pub fn insert(&mut self, rule: Rule)
-        requires { 0 < self.old.room }
-        ensures list { self.new.list ≡ placed rule_kind rule self.old.list }
-        ensures room { self.old.room ≤ self.new.room + 1 }
-    {
+    fn put(&mut self, rule: &Rule) {
         let number = self.rules.len() as u32;
-        let _ = self.rules.push(rule);
+        let _ = self.rules.push(*rule);
         put(&self.rules, Sorting::ByArrival, &mut self.order, number);
         put(&self.rules, Sorting::ByKey, &mut self.keyed, number);
     }
 
-    /// Takes a rule out, where it is there.
-    pub fn remove(&mut self, rule: &Rule)
-        ensures list { self.new.list ≡ without rule_kind rule.now self.old.list }
-        ensures room { self.old.room ≤ self.new.room }
-    {
+    fn cut(&mut self, rule: &Rule) {
         if let Some(number) = first_same(&self.rules, &self.keyed, rule, &keyed_of(rule, 0)) {
             cut(&self.rules, Sorting::ByArrival, &mut self.order, number);
             cut(&self.rules, Sorting::ByKey, &mut self.keyed, number);
         }
     }
 
-    /// The first rule that the packet matches, from this place on.
-    pub fn next_match(&self, packet: &Packet, from: usize) -> Option<FoundRule>
-        ensures { result ≡ next_match self.now.list packet.now from }
-    {
-        next_in(&self.rules, &self.order, &self.keyed, packet, from)
+    fn count(&self) -> u64 {
+        self.order.len() as u64
+    }
+
+    fn rule_at(&self, place: u64) -> Option<Rule> {
+        rule_in(&self.rules, &self.order, &self.keyed, place as usize)
+    }
+
+    fn next_match(&self, packet: &Packet, from: u64) -> Option<FoundRule> {
+        next_in(&self.rules, &self.order, &self.keyed, packet, from as usize)
     }
 }
 
