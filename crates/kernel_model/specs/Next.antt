@@ -1,4 +1,4 @@
--- The next rule of a list that a packet matches.
+-- The next rule of a list that a packet matches: after the ip-rule manual the rules are looked at in their order.
 use Rattle.std.specs.Prelude.{ℕ, ◌+◌, List, [], ◌∷◌, if◌then◌else◌, drop, Option, Some, None}
 use Rattle.rule_match.specs.Rule.{matches}
 use Rattle.rule_match.specs.declared.packet.Packet.{Packet}

@@ -61,7 +61,7 @@ pub fn given<K: Kernel>(kernel: &K, action: Action, packet: &Packet) -> Option<V
 }
 
 /// Where a kernel sends a packet, from one rule that matches to the next.
-pub fn walk_by_matches<K: Kernel>(kernel: &K, packet: &Packet) -> Verdict
+pub(crate) fn walk_by_matches<K: Kernel>(kernel: &K, packet: &Packet) -> Verdict
     ensures { result ≡ walk (state_of (K.seen kernel.now)) packet.now }
 {
     let count = kernel.rule_count(packet.family());
