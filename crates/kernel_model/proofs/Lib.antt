@@ -1,4 +1,5 @@
 pub mod Replays
+pub mod Follows
 pub mod Sames
 pub mod Requests
 pub mod Undoing

@@ -5,6 +5,7 @@ pub mod State
 pub mod Journal
 pub mod View
 pub mod Walk
+pub mod Next
 pub mod PlanView
 pub mod Segment
 pub mod Form

@@ -2,12 +2,16 @@ ghost use Rattle.std.specs.Prelude.{◌≡◌, ℕ, ◌+◌, ◌<◌, ◌≤◌,
 ghost use Rattle.kernel_model.specs.declared.request.Request.TheVariants as req;
 ghost use Rattle.kernel_model.specs.State.{is_absent, is_present, rules_of, routes_of};
 ghost use Rattle.kernel_model.specs.Walk.{walk};
+ghost use Rattle.kernel_model.specs.Next.{next_match};
+ghost use Rattle.prefixes.specs.Addr.{family_of};
 ghost use Rattle.prefixes.specs.Best.{best};
 ghost use Rattle.kernel_model.specs.View.{KernelView, state_of, Room, grown, used, IsSound};
 ghost use Rattle.kernel_model.specs.Journal.{entry};
 ghost use Rattle.kernel_model.specs.declared.request.EntryKind.TheVariants.{Added, Deleted, Refused, Broken};
 
+use crate::found::FoundRule;
 use crate::request::{Entry, Request};
+use crate::walk::walk_by_matches;
 use prefixes::{Addr, Family, Route};
 use rule_match::{Packet, Rule, Verdict};
 use std::alloc::AllocError;
@@ -80,8 +84,18 @@ pub trait Kernel {
             (entry (if is_ok result then Deleted else Broken) (req.Route table route.now)) };
 
     /// Where the packet goes: unreachable where no rule decides.
-    fn walk(&self, packet: &Packet) -> Verdict
-        ensures { result ≡ walk (state_of (seen self.now)) packet.now };
+    final fn walk(&self, packet: &Packet) -> Verdict
+    where
+        Self: Sized,
+        ensures { result ≡ walk (state_of (seen self.now)) packet.now }
+    {
+        walk_by_matches(self, packet)
+    }
+
+    /// The first rule that the packet matches, from this place on in the list of its family.
+    fn next_match(&self, packet: &Packet, from: u64) -> Option<FoundRule>
+        ensures { result ≡ next_match
+            (rules_of (state_of (seen self.now)) (family_of packet.now.dest)) packet.now from };
 
     fn rule_count(&self, family: Family) -> u64
         ensures { result ≡ length (rules_of (state_of (seen self.now)) family) };

@@ -2,16 +2,20 @@
 //! routes that the journal leaves.
 #![tactic(auto)]
 
+mod found;
 mod kernel;
 mod laws;
+mod next;
 mod plan;
 mod request;
 mod step;
 mod walk;
 
+pub use found::FoundRule;
 pub use kernel::{Armed, Kernel, KernelFault, ask_add, ask_delete};
 pub use laws::{ends, goes_over, goes_over_and_back, moments_go_on};
+pub use next::next_in;
 pub use plan::Plan;
 pub use request::{Entry, EntryKind, Request};
 pub use step::Step;
-pub use walk::{DEVICE_TABLE, verdict_by};
+pub use walk::{DEVICE_TABLE, OWN_RULE, given, verdict_by};

@@ -3,7 +3,7 @@
 
 use net_io::{StdSink, StdSource};
 use netd_top::run;
-use sim_kernel::SimKernel;
+use rule_index::IndexedKernel;
 use std::alloc::{AllocError, Global};
 use std::env::Args;
 use std::io::ErrorKind;
@@ -29,7 +29,7 @@ fn main(rt: HostRuntime) -> ExitCode {
     let Ok(words) = words_in(alloc, env::args(&rt)) else {
         return ExitCode::from(NO_MEMORY);
     };
-    let Ok(mut kernel) = SimKernel::new(alloc, Vec::new(alloc), Vec::new(alloc)) else {
+    let Ok(mut kernel) = IndexedKernel::new(alloc, Vec::new(alloc), Vec::new(alloc)) else {
         return ExitCode::from(NO_MEMORY);
     };
     let mut source = StdSource::new(rt.reader());

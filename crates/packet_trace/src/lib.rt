@@ -1,7 +1,6 @@
 //! Follows a packet through a kernel's rules, and watches a packet while a kernel changes.
 #![tactic(auto)]
 
-mod best;
 mod trail;
 mod watched;
 

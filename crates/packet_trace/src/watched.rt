@@ -4,7 +4,7 @@ ghost use Rattle.packet_trace.specs.Changes.{changes_since, change_by};
 ghost use Rattle.kernel_model.specs.View.{state_of};
 ghost use Rattle.kernel_model.specs.Walk.{walk};
 
-use kernel_model::{Entry, Kernel, KernelFault};
+use kernel_model::{Entry, FoundRule, Kernel, KernelFault};
 use prefixes::{Addr, Family, Route};
 use rule_match::{Packet, Rule, Verdict, same_verdict};
 use std::alloc::{AllocError, Global};
@@ -161,8 +161,8 @@ impl<'a, K: Kernel> Kernel for Watched<'a, K> {
         result
     }
 
-    fn walk(&self, packet: &Packet) -> Verdict {
-        self.inner.walk(packet)
+    fn next_match(&self, packet: &Packet, from: u64) -> Option<FoundRule> {
+        self.inner.next_match(packet, from)
     }
 
     fn rule_count(&self, family: Family) -> u64 {

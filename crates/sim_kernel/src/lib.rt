@@ -1,9 +1,11 @@
-//! A kernel that keeps its rules and its tables in lists, and fails where it is told to.
+//! A kernel that keeps its rules in lists, and fails where it is told to.
 #![tactic(auto)]
 
 mod lists;
-mod numbered;
-mod sim;
-mod tables;
+mod rule_list;
 
-pub use sim::SimKernel;
+use kernel_ledger::LedgerKernel;
+pub use rule_list::RuleList;
+
+/// A kernel that keeps its rules in lists, and fails where it is told to.
+pub type SimKernel = LedgerKernel<RuleList>;

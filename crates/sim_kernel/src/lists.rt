@@ -4,7 +4,6 @@ ghost use Rattle.rule_law.specs.Rules.{placed, without};
 ghost use Rattle.rule_match.specs.Rule.{same_rule};
 ghost use Rattle.kernel_model.specs.Kind.{rule_kind};
 ghost use Rattle.kernel_model.specs.State.{has_rule};
-ghost use Rattle.kernel_model.specs.Journal.{is_listed};
 
 use rule_match::{Rule, same_rule};
 
@@ -48,11 +47,4 @@ pub fn remove_rule(rules: &mut Vec<Rule>, rule: &Rule)
     if let Some(place) = find_rule(rules, rule) {
         rules.remove(place);
     }
-}
-
-/// Whether the number is in the list.
-pub fn is_in(numbers: &[u64], number: u64) -> bool
-    ensures { result ≡ is_listed numbers.now number }
-{
-    numbers.contains(&number)
 }

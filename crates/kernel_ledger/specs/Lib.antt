@@ -1,0 +1,4 @@
+pub mod Kept
+pub mod Room
+pub mod Seen
+pub mod Tables

@@ -1,0 +1,13 @@
+-- The room that a table which is ready has.
+use Rattle.std.specs.Prelude.{◌≡◌, ℕ, ◌<◌, ◌≤◌, List, [], Option, Some, None, length, get_or}
+use Rattle.kernel_ledger.specs.Tables.{RoomyTable, place_of, empty}
+
+-- the table is there and has room, or an empty one with room stands aside, and there is room to put it last
+pub record HasRoom (n : ℕ) (tables : List RoomyTable) (more : ℕ) (fresh : Option RoomyTable) : Type 0 where
+  pub there : place_of n tables < length tables → 0 < (get_or tables (place_of n tables) empty).room
+  pub last : length tables ≤ place_of n tables → 0 < more
+  pub aside : length tables ≤ place_of n tables → (t : RoomyTable) × (fresh ≡ Some t) × (t.number ≡ n) × (t.routes ≡ []) × (0 < t.room)
+
+abbrev pub ReadyHasRoom : Option ℕ → List RoomyTable → ℕ → Option RoomyTable → Type 0
+ReadyHasRoom None tables more fresh = Unit {0}
+ReadyHasRoom (Some n) tables more fresh = HasRoom n tables more fresh

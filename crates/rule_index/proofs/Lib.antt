@@ -1,0 +1,11 @@
+pub mod Orders
+pub mod Places
+pub mod Inside
+pub mod Jumps
+pub mod Leasts
+pub mod Members
+pub mod Puts
+pub mod Cuts
+pub mod Nexts
+pub mod Numbers
+pub mod Changed

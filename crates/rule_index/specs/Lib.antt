@@ -1,0 +1,4 @@
+pub mod Spots
+pub mod Sorted
+pub mod Search
+pub mod Index
