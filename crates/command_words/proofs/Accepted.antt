@@ -1,16 +1,20 @@
 -- Which words the command takes, and what it makes of them.
-use Rattle.std.proofs.Common.{◌≡◌, ◌∙◌, Bool, true, false, List, [], ◌∷◌, Option, Some, None, codes, refl, sym, ap, fold, is_some}
+use Rattle.std.proofs.Common.{◌≡◌, ◌∙◌, Bool, true, false, List, [], ◌∷◌, Option, Some, None, codes, refl, sym, ap, find, fold, is_some, option_map}
+use Rattle.std.specs.Option.{option_map_or}
 use Rattle.std.specs.Str.{bytes_eq}
 use Rattle.clap.specs.Lexer.{long_of, short_of}
 use Rattle.clap.specs.Kinds.{Kinds, or_else}
-use Rattle.clap.specs.Walk.{Row, Rule, Walk, nothing_held, walk_from, walked, settled, settled_rows, used, idle, option, finished, rows_after}
-use Rattle.clap.specs.Simple.{App, Shape, filled, built, built_leaf, inherited, marked_built, with_leaf_noted, names_of, entered, subcommand_of}
+use Rattle.clap.specs.Walk.{Row, Rule, Walk, answers_to, nothing_held, walk_from, walked, settled, settled_rows, used, idle, option, finished, rows_after}
+use Rattle.clap.specs.Simple.{App, Shape, new_app, filled, built, built_leaf, inherited, label_of, marked_built, with_leaf_noted, names_of, entered, rows_at, subcommand_of}
 use Rattle.clap.specs.Faults.{fault_of, level_fault, walk_fault, entered_fault, settle_fault, defaults_fault, check_fault, turn_fault, is_simple_and_free}
 use Rattle.clap.proofs.OnLiterals.{clap_on_literals}
 use Rattle.clap.proofs.WalkLemmas.{walk_stopped}
 use Rattle.clap.proofs.FaultLemmas.{stopped_fault}
 use Rattle.command_words.specs.App.{netd_app, run_app, refuse_rule, break_rule}
-use Rattle.command_words.specs.Forms.{Text}
+use Rattle.command_words.specs.Forms.{Text, name_of as word_of_form}
+use Rattle.command_words.specs.Read.{wordless_named}
+use Rattle.command_words.specs.declared.form.Wordless.{Wordless}
+use Rattle.command_words.specs.declared.form.Wordless.TheVariants.{Check}
 use Rattle.command_words.specs.Refused.{is_refused}
 use Rattle.command_words.proofs.Walk.{Which, refuse, broken}
 
@@ -45,22 +49,49 @@ left name rest = fold (walked whole.top.rules (names_of whole)) (after_name name
 left_is : (name : Text) (rest : List Text) → left name rest ≡ after_name name rest
 left_is name rest = sym (walk_stopped whole.top.rules (names_of whole) (after_name name []) name [] rest)
 
-pub run_starts : (rest : List Text) → fault_of netd_app (codes "run" ∷ rest) ≡ from_end (codes "run") rest (left (codes "run") rest)
-unfolding clap_on_literals
-run_starts rest = refl
+-- a subcommand of this name, which is built so
+pub record IsSub (name : Text) (below : Shape) : Type 0 where
+  pub met : find (answers_to name) (names_of whole) ≡ Some (name, [])
+  pub here : find (λ (s : Shape). answers_to name (label_of s)) whole.subs ≡ Some below
+  pub named : below.name ≡ name
+  pub no_help : bytes_eq name (codes "help") ≡ false
+  pub refused : is_refused name ≡ false
 
-pub run_ends : (rest : List Text) → from_end (codes "run") rest (after_name (codes "run") rest) ≡ level_fault (leaf run_app) [] nothing_held rest false []
-unfolding clap_on_literals
-run_ends rest = ap (λ k. or_else k (or_else (level_fault (leaf run_app) [] nothing_held rest false []) []))
-    (stopped_fault whole.top (names_of whole) (after_name (codes "run") []) (codes "run", []) rest)
-    ∙ or_else-nil (level_fault (leaf run_app) [] nothing_held rest false [])
+pub run_is_sub : IsSub (codes "run") (leaf run_app)
+run_is_sub = record { met = refl; here = refl; named = refl; no_help = refl; refused = refl }
 
-pub run_fault_is : (rest : List Text) → fault_of netd_app (codes "run" ∷ rest) ≡ level_fault (leaf run_app) [] nothing_held rest false []
-run_fault_is rest = run_starts rest ∙ ap (from_end (codes "run") rest) (left_is (codes "run") rest) ∙ run_ends rest
+module _ (name : Text) (below : Shape) (sub : IsSub name below) (rest : List Text) where
+  abbrev below_fault : Shape → Kinds
+  below_fault s = level_fault s [] nothing_held rest false []
 
-pub run_found : (rest : List Text) → subcommand_of netd_app (codes "run" ∷ rest) ≡ Some (codes "run", rows_after (leaf run_app).rules [] rest)
-unfolding clap_on_literals
-run_found rest = ap (λ (w : Walk). entered whole w.stopped) (left_is (codes "run") rest)
+  name_fault : turn_fault whole.top (names_of whole) (walk_from nothing_held) name ≡ []
+  name_fault = rw (sub.met, sub.no_help) refl
+
+  name_goes : walked whole.top.rules (names_of whole) (walk_from nothing_held) name ≡ after_name name []
+  unfolding walked
+  name_goes = rw sub.met refl
+
+  sub_starts : fault_of netd_app (name ∷ rest) ≡ from_end name rest (left name rest)
+  unfolding walk_fault
+  sub_starts = rw (name_fault, name_goes) refl
+
+  sub_ends : from_end name rest (after_name name rest) ≡ level_fault below [] nothing_held rest false []
+  unfolding clap_on_literals
+  sub_ends =
+      ap (λ (o : Option Shape). or_else (walk_fault whole.top (names_of whole) (after_name name []) rest) (or_else (option_map_or below_fault o [])
+      (check_fault whole.top [] (is_some (option_map (λ (s : Shape). rows_at s rest) o))))) sub.here
+      ∙ ap (λ k. or_else k (or_else (below_fault below) [])) (stopped_fault whole.top (names_of whole) (after_name name []) (name, []) rest)
+      ∙ or_else-nil (below_fault below)
+
+  pub sub_fault_is : fault_of netd_app (name ∷ rest) ≡ level_fault below [] nothing_held rest false []
+  sub_fault_is = sub_starts ∙ ap (from_end name rest) (left_is name rest) ∙ sub_ends
+
+  pub sub_found : subcommand_of netd_app (name ∷ rest) ≡ Some (name, rows_after below.rules [] rest)
+  unfolding clap_on_literals
+  sub_found =
+      ap (λ (w : Walk). entered whole w.stopped) (ap (λ (w : Walk). fold (walked whole.top.rules (names_of whole)) w rest) name_goes ∙ left_is name rest)
+      ∙ ap (λ (o : Option Shape). option_map (λ (s : Shape). (s.name, rows_after s.rules [] rest)) o) sub.here
+      ∙ ap (λ (n : Text). Some (n, rows_after below.rules [] rest)) sub.named
 
 -- ---- what the code makes of the matches
 
@@ -159,10 +190,34 @@ idle_bare_goes rows p x refuse cx lx = rw (cx.0, lx) refl
 idle_bare_goes rows p x broken cx lx = rw (cx.0, lx) refl
 
 -- the first word is none of the subcommands
-pub unknown_fails : (w : Text) (ws : List Text) (o : Long) → IsClean w → long_of w ≡ o → bytes_eq (codes "run") w ≡ false → is_fault (fault_of netd_app (w ∷ ws)) ≡ true
+pub unknown_fails : (w : Text) (ws : List Text) (o : Long) → IsClean w → long_of w ≡ o → find (answers_to w) (names_of whole) ≡ None → is_fault (fault_of netd_app (w ∷ ws)) ≡ true
 unfolding clap_on_literals
-unknown_fails w ws None cw lw nr = rw (nr, cw.0, lw, cw.1) refl
-unknown_fails w ws (Some p) cw lw nr = rw (nr, cw.0, lw) refl
+unknown_fails w ws None cw lw none = rw (none, cw.0, lw, cw.1) refl
+unknown_fails w ws (Some p) cw lw none = rw (none, cw.0, lw) refl
+
+-- ---- a form whose only word is its name
+
+abbrev pub wordless_leaf : Wordless → Shape
+wordless_leaf form = leaf (new_app (word_of_form form))
+
+-- what is so of each of these forms, by its word
+pub record IsRow (form : Wordless) : Type 0 where
+  pub sub : IsSub (word_of_form form) (wordless_leaf form)
+  pub apart : bytes_eq (codes "run") (word_of_form form) ≡ false
+  pub other : bytes_eq (word_of_form form) (codes "run") ≡ false
+  pub found : wordless_named (word_of_form form) ≡ Some form
+
+pub is_row : (form : Wordless) → IsRow form
+is_row Check = record { sub = record { met = refl; here = refl; named = refl; no_help = refl; refused = refl }; apart = refl; other = refl; found = refl }
+
+pub alone_fits : (form : Wordless) → level_fault (wordless_leaf form) [] nothing_held [] false [] ≡ []
+unfolding clap_on_literals
+alone_fits form = refl
+
+pub more_fails : (form : Wordless) (w : Text) (ws : List Text) (o : Long) → IsClean w → long_of w ≡ o → is_fault (level_fault (wordless_leaf form) [] nothing_held (w ∷ ws) false []) ≡ true
+unfolding clap_on_literals
+more_fails form w ws None cw lw = rw (cw.0, lw, cw.1) refl
+more_fails form w ws (Some p) cw lw = rw (cw.0, lw) refl
 
 pub no_words_fail : is_fault (fault_of netd_app []) ≡ true
 unfolding clap_on_literals

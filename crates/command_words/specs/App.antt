@@ -1,7 +1,10 @@
 -- The command that `clap` is given.
-use Rattle.std.specs.Prelude.{true, Some, codes}
+use Rattle.std.specs.Prelude.{true, Some, codes, fold}
 use Rattle.clap.specs.Walk.{Rule}
 use Rattle.clap.specs.Simple.{App, Shape, new_app, new_rule, with_rule, with_subcommand, on_top}
+use Rattle.command_words.specs.Forms.{name_of}
+use Rattle.command_words.specs.declared.form.TheConstants.{ALL_WORDLESS}
+use Rattle.command_words.specs.declared.form.Wordless.{Wordless}
 
 abbrev pub refuse_rule : Rule
 refuse_rule = record (new_rule (codes "refuse")) { long = Some (codes "refuse") }
@@ -21,6 +24,14 @@ plain_shape s = record s {
   subcommand_required = true;
 }
 
+-- a subcommand that takes no words
+abbrev pub with_wordless : App → Wordless → App
+with_wordless app form = with_subcommand app (new_app (name_of form)).top
+
+-- the command with `run` alone
+abbrev pub first_app : App
+first_app = with_subcommand (on_top plain_shape (new_app (codes "netd_run"))) run_app.top
+
 -- the whole command
 abbrev pub netd_app : App
-netd_app = with_subcommand (on_top plain_shape (new_app (codes "netd_run"))) run_app.top
+netd_app = fold with_wordless first_app ALL_WORDLESS

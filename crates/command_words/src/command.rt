@@ -3,6 +3,7 @@ ghost use Rattle.clap.specs.Simple.{app_of};
 ghost use Rattle.clap.specs.declared.builder.command.Command.TheViews.{out-Command as fields_of};
 ghost use Rattle.command_words.specs.App.{netd_app, run_app};
 
+use crate::form::ALL_WORDLESS;
 use clap::{Arg, Command};
 use std::alloc::{AllocError, Global};
 
@@ -26,5 +27,9 @@ pub fn netd_command<'a>(alloc: Global) -> Result<Command<'a>, AllocError>
         .disable_version_flag(true)
         .disable_help_subcommand(true)
         .subcommand_required(true);
-    plain.subcommand(run)
+    let mut command = plain.subcommand(run)?;
+    for form in ALL_WORDLESS {
+        command = command.subcommand(Command::new(alloc, form.name()))?;
+    }
+    Ok(command)
 }
