@@ -5,12 +5,12 @@ use Rattle.std.specs.Str.{bytes_eq}
 use Rattle.clap.specs.Lexer.{long_of, short_of}
 use Rattle.clap.specs.Kinds.{Kinds, or_else}
 use Rattle.clap.specs.Walk.{Row, Rule, Walk, answers_to, nothing_held, walk_from, walked, settled, settled_rows, used, idle, option, finished, rows_after}
-use Rattle.clap.specs.Simple.{App, Shape, new_app, filled, built, built_leaf, inherited, label_of, marked_built, with_leaf_noted, names_of, entered, rows_at, subcommand_of}
+use Rattle.clap.specs.Simple.{App, Shape, filled, built, built_leaf, inherited, label_of, marked_built, with_leaf_noted, names_of, entered, rows_at, subcommand_of}
 use Rattle.clap.specs.Faults.{fault_of, level_fault, walk_fault, entered_fault, settle_fault, defaults_fault, check_fault, turn_fault, is_simple_and_free}
 use Rattle.clap.proofs.OnLiterals.{clap_on_literals}
 use Rattle.clap.proofs.WalkLemmas.{walk_stopped}
 use Rattle.clap.proofs.FaultLemmas.{stopped_fault}
-use Rattle.command_words.specs.App.{netd_app, run_app, refuse_rule, break_rule}
+use Rattle.command_words.specs.App.{named_app, netd_app, run_app, refuse_rule, break_rule}
 use Rattle.command_words.specs.Forms.{Text, name_of as word_of_form}
 use Rattle.command_words.specs.Read.{wordless_named}
 use Rattle.command_words.specs.declared.form.Wordless.{Wordless}
@@ -102,6 +102,27 @@ IsClean w = (bytes_eq w (codes "--") ≡ false) × (short_of w ≡ None) × (is_
 abbrev pub Long : Type 0
 Long = Option (Text × Option Text)
 
+-- ---- the words of a subcommand that is built so
+
+-- what is left to say at the end of the words
+abbrev pub end_fault : Shape → Walk → Kinds
+end_fault below w =
+    or_else (settle_fault below.rules false w.held) (or_else (defaults_fault (settled below.rules w.held).rows below.rules) (check_fault below (finished below.rules w.held) false))
+
+-- the faults of the words from a walk on, and the rows at their end
+abbrev pub faults_from : Shape → Walk → List Text → Kinds
+faults_from below w ws = or_else (walk_fault below [] w ws) (end_fault below (fold (walked below.rules []) w ws))
+
+abbrev pub rows_from : Shape → Walk → List Text → List Row
+rows_from below w ws = finished below.rules (fold (walked below.rules []) w ws).held
+
+-- one word that has no fault
+pub tail_step : (below : Shape) (w next_walk : Walk) (x : Text) (ws : List Text) → turn_fault below [] w x ≡ [] → walked below.rules [] w x ≡ next_walk → faults_from below w (x ∷ ws) ≡ faults_from below next_walk ws
+unfolding walk_fault
+tail_step below w next_walk x ws none goes =
+    ap (λ (k : Kinds). or_else (or_else k (walk_fault below [] (walked below.rules [] w x) ws)) (end_fault below (fold (walked below.rules []) (walked below.rules [] w x) ws))) none
+    ∙ ap (λ (v : Walk). faults_from below v ws) goes
+
 -- ---- `run`
 
 abbrev pub name_of : Which → Text
@@ -128,13 +149,10 @@ open_walk o rows = record { held = record { rows = rows; pending = Some (name_of
 
 -- the faults of the words from a walk on, and the rows at their end
 abbrev pub tail_fault : Walk → List Text → Kinds
-tail_fault w ws =
-    let end = (fold (walked run_leaf.rules []) w ws).held in
-    or_else (walk_fault run_leaf [] w ws) (or_else (settle_fault run_leaf.rules false end)
-    (or_else (defaults_fault (settled run_leaf.rules end).rows run_leaf.rules) (check_fault run_leaf (finished run_leaf.rules end) false)))
+tail_fault w ws = faults_from run_leaf w ws
 
 abbrev pub tail_rows : Walk → List Text → List Row
-tail_rows w ws = finished run_leaf.rules (fold (walked run_leaf.rules []) w ws).held
+tail_rows w ws = rows_from run_leaf w ws
 
 pub run_starts_idle : (ws : List Text) → level_fault run_leaf [] nothing_held ws false [] ≡ tail_fault (idle_walk [] None) ws
 unfolding clap_on_literals
@@ -167,18 +185,6 @@ pub idle_stranger : (rows : List Row) (p : Option (Text × List Text)) (x : Text
 unfolding clap_on_literals
 idle_stranger rows p x ws n v cx lx nr nb = rw (cx.0, lx, nr, nb) refl
 
--- one word that has no fault
-pub tail_step : (w next_walk : Walk) (x : Text) (ws : List Text) → turn_fault run_leaf [] w x ≡ [] → walked run_leaf.rules [] w x ≡ next_walk → tail_fault w (x ∷ ws) ≡ tail_fault next_walk ws
-unfolding walk_fault
-tail_step w next_walk x ws none goes =
-    ap (λ (k : Kinds). or_else (or_else k (walk_fault run_leaf [] (walked run_leaf.rules [] w x) ws)) (after (walked run_leaf.rules [] w x))) none
-    ∙ ap (λ (v : Walk). tail_fault v ws) goes
-  where
-    after : Walk → Kinds
-    after v =
-        let end = (fold (walked run_leaf.rules []) v ws).held in
-        or_else (settle_fault run_leaf.rules false end) (or_else (defaults_fault (settled run_leaf.rules end).rows run_leaf.rules) (check_fault run_leaf (finished run_leaf.rules end) false))
-
 pub idle_bare_turn : (rows : List Row) (p : Option (Text × List Text)) (x : Text) (o : Which) → IsClean x → long_of x ≡ Some (name_of o, None) → pending_fault rows p ≡ [] → turn_fault run_leaf [] (idle_walk rows p) x ≡ []
 unfolding clap_on_literals
 idle_bare_turn rows p x refuse cx lx fits = rw (cx.0, lx, fits) refl
@@ -197,27 +203,19 @@ unknown_fails w ws (Some p) cw lw none = rw (none, cw.0, lw) refl
 
 -- ---- a form whose only word is its name
 
-abbrev pub wordless_leaf : Wordless → Shape
-wordless_leaf form = leaf (new_app (word_of_form form))
+-- a subcommand of this name, as it is built
+abbrev pub named_leaf : Text → Shape
+named_leaf name = leaf (named_app name)
 
 -- what is so of each of these forms, by its word
 pub record IsRow (form : Wordless) : Type 0 where
-  pub sub : IsSub (word_of_form form) (wordless_leaf form)
+  pub sub : IsSub (word_of_form form) (named_leaf (word_of_form form))
   pub apart : bytes_eq (codes "run") (word_of_form form) ≡ false
   pub other : bytes_eq (word_of_form form) (codes "run") ≡ false
   pub found : wordless_named (word_of_form form) ≡ Some form
 
 pub is_row : (form : Wordless) → IsRow form
 is_row Check = record { sub = record { met = refl; here = refl; named = refl; no_help = refl; refused = refl }; apart = refl; other = refl; found = refl }
-
-pub alone_fits : (form : Wordless) → level_fault (wordless_leaf form) [] nothing_held [] false [] ≡ []
-unfolding clap_on_literals
-alone_fits form = refl
-
-pub more_fails : (form : Wordless) (w : Text) (ws : List Text) (o : Long) → IsClean w → long_of w ≡ o → is_fault (level_fault (wordless_leaf form) [] nothing_held (w ∷ ws) false []) ≡ true
-unfolding clap_on_literals
-more_fails form w ws None cw lw = rw (cw.0, lw, cw.1) refl
-more_fails form w ws (Some p) cw lw = rw (cw.0, lw) refl
 
 pub no_words_fail : is_fault (fault_of netd_app []) ≡ true
 unfolding clap_on_literals

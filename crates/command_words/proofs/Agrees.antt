@@ -1,24 +1,26 @@
 -- What `clap` makes of the words is what the walk over them makes.
-use Rattle.std.proofs.Common.{◌≡◌, ◌∙◌, ◌||◌, Bool, true, false, List, [], ◌∷◌, Option, Some, None, codes, refl, sym, ap, ap₂, subst, if◌then◌else◌, is_some, find, map, option_map}
+use Rattle.std.proofs.Common.{◌≡◌, ◌∙◌, ◌||◌, Bool, true, false, List, [], ◌∷◌, Option, Some, None, codes, refl, sym, ap, ap₂, subst, if◌then◌else◌, is_some, find, map, option_map, length, nat_lt, not, ◌&&◌}
+use Rattle.std.specs.List.{list_all}
 use Rattle.std.proofs.lemmas.Slice.Eq.{bytes_eq-Decides}
 use Rattle.std.specs.Str.{bytes_eq}
 use Rattle.clap.specs.Lexer.{long_of}
 use Rattle.clap.specs.Kinds.{Kinds, IsAmong}
 use Rattle.clap.specs.declared.error.kind.ErrorKind.{ErrorKind}
-use Rattle.clap.specs.Walk.{Row, answers_to, rows_after}
+use Rattle.clap.specs.Walk.{Row, answers_to, nothing_held, rows_after}
 use Rattle.clap.specs.Simple.{App, subcommand_of}
-use Rattle.clap.specs.Faults.{fault_of}
+use Rattle.clap.specs.Faults.{fault_of, level_fault}
 use Rattle.command_words.specs.App.{netd_app}
 use Rattle.command_words.specs.Forms.{Text, name_of as word_of_form}
 use Rattle.command_words.specs.declared.form.TheConstants.{ALL_WORDLESS}
 use Rattle.command_words.specs.declared.form.Wordless.{Wordless}
-use Rattle.command_words.specs.Read.{Given, Reading, alone, given_in, options, read_found, wordless_named}
+use Rattle.command_words.specs.Read.{Given, Reading, alone_given, given_in, options, read_found, wordless_named, words_in}
 use Rattle.command_words.specs.Refused.{is_refused, has_refused}
-use Rattle.command_words.proofs.Walk.{Which, Word, alone_given, find-passes, with_given, given_of, given_once, words_given, run_given, run_from, run_step, idle_step, value_step, word_of, text_word, nothing_given}
+use Rattle.command_words.proofs.Walk.{Which, Word, find-passes, with_given, given_of, given_once, words_given, run_given, run_from, run_step, idle_step, value_step, word_of, text_word, nothing_given}
 use Rattle.command_words.proofs.Walk.{plain as plain_word, stranger as stranger_word, bare as bare_word, attached as attached_word}
-use Rattle.command_words.proofs.Accepted.{is_fault, IsClean, alone_fits, idle_walk, is_row, more_fails, run_is_sub, run_leaf, run_starts_idle, run_rows_idle, sub_fault_is, sub_found, tail_fault, tail_rows, unknown_fails, no_words_fail, wordless_leaf}
+use Rattle.command_words.proofs.Accepted.{is_fault, IsClean, idle_walk, is_row, run_is_sub, run_leaf, run_starts_idle, run_rows_idle, sub_fault_is, sub_found, tail_fault, tail_rows, named_leaf, unknown_fails, no_words_fail}
 use Rattle.command_words.proofs.Run.{holds_nothing}
 use Rattle.command_words.proofs.RunAgrees.{AreClean, answer, idle_agrees}
+use Rattle.command_words.proofs.Following.{is_plain, read_words, taken, words_taken}
 use Rattle.command_words.proofs.Words.{clean_from}
 
 -- what the code reads, from the faults and the subcommand that was found
@@ -46,15 +48,37 @@ run_agrees rest clean =
 named : (name w : Text) → bytes_eq name w ≡ true → name ≡ w
 named name w e = (bytes_eq-Decides name w).0 e
 
--- a form's word, alone or with words after it
+-- the words after a name are read, where a form of the name takes no words that `clap` doesn't take
+named_outcome : (name : Text) (given : List Text → Option Reading) → ((l : List Text) → taken l ≡ None → given l ≡ None) → (k : Kinds) (rows : List Row) (ws : List Text)
+    → read_words name k rows ≡ taken ws → (if is_fault k then None else given (words_in rows)) ≡ given ws
+named_outcome name given none k rows ws read = by (is_fault k) read
+  where
+    same : (t : Bool) → Some (words_in rows) ≡ (if t then Some ws else None) → given (words_in rows) ≡ given ws
+    same true e = let equal : words_in rows ≡ ws = cc in ap given equal
+    same false e = absurd (let no : ◌≡◌ {A = Option (List Text)} (Some (words_in rows)) None = e in cc)
+
+    by : (b : Bool) → (if b then None else Some (words_in rows)) ≡ taken ws → (if b then None else given (words_in rows)) ≡ given ws
+    by true e = sym (none ws (sym e))
+    by false e = same (list_all is_plain ws && not (nat_lt 4 (length ws))) e
+
+-- a form's word, and words after it
 alone_agrees : (form : Wordless) (rest : List Text) → AreClean rest → Agrees (word_of_form form) rest (alone_given (Some form) rest)
-alone_agrees form [] clean =
+alone_agrees form rest clean =
     let row = is_row form in
-    ap₂ outcome (sub_fault_is (word_of_form form) (wordless_leaf form) row.sub [] ∙ alone_fits form) (sub_found (word_of_form form) (wordless_leaf form) row.sub [])
-    ∙ ap (λ b. if b then Some (options (given_in (rows_after (wordless_leaf form).rules [] []))) else option_map alone (wordless_named (word_of_form form))) row.other
-    ∙ ap (option_map alone) row.found
-alone_agrees form (w ∷ ws) clean =
-    refused (word_of_form form ∷ w ∷ ws) (ap is_fault (sub_fault_is (word_of_form form) (wordless_leaf form) (is_row form).sub (w ∷ ws)) ∙ more_fails form w ws (long_of w) clean.0 refl)
+    let name = word_of_form form in
+    ap₂ outcome (sub_fault_is name (named_leaf name) row.sub rest) (sub_found name (named_leaf name) row.sub rest)
+    ∙ ap₂ (λ a o. if is_fault (fault name) then None else (if a then Some (options (given_in (rows name))) else alone_given o (words_in (rows name)))) row.other row.found
+    ∙ named_outcome name (alone_given (Some form)) none (fault name) (rows name) rest (words_taken name rest clean)
+  where
+    fault : Text → Kinds
+    fault name = level_fault (named_leaf name) [] nothing_held rest false []
+
+    rows : Text → List Row
+    rows name = rows_after (named_leaf name).rules [] rest
+
+    none : (l : List Text) → taken l ≡ None → alone_given (Some form) l ≡ None
+    none [] e = absurd (let no : ◌≡◌ {A = Option (List Text)} (Some []) None = e in cc)
+    none (x ∷ xs) e = refl
 
 -- a word that names none of these forms names none of their subcommands
 names_none : (w : Text) (forms : List Wordless) → find (λ form. bytes_eq (word_of_form form) w) forms ≡ None → find (answers_to w) (map (λ form. (word_of_form form, [])) forms) ≡ None

@@ -1,9 +1,8 @@
 -- The words after `run`, taken one at a time: what stands between the forms and what `clap` does.
 use Rattle.std.proofs.Common.{◌≡◌, ◌∙◌, ◌==◌, Bool, true, false, refl, sym, ap, find, List, [], ◌∷◌, Option, Some, None, codes, if◌then◌else◌, is_some, option_map}
-use Rattle.command_words.specs.declared.form.Wordless.{Wordless}
 use Rattle.std.specs.Str.{bytes_eq}
 use Rattle.command_words.specs.Forms.{Text}
-use Rattle.command_words.specs.Read.{Given, Reading, alone, options, wordless_named}
+use Rattle.command_words.specs.Read.{Given, Reading, alone_given, options, wordless_named}
 use Rattle.command_words.specs.Refused.{is_refused}
 
 -- the two options of `run`
@@ -84,11 +83,6 @@ run_from waiting g (w ∷ ws) = run_step waiting g w (λ o h. run_from o h ws)
 
 abbrev pub run_given : List Text → Option Given
 run_given ws = run_from None nothing_given ws
-
--- what the words after the first one give, by the form that the first one names alone
-abbrev pub alone_given : Option Wordless → List Text → Option Reading
-alone_given (Some form) [] = Some (alone form)
-alone_given _ _ = None
 
 -- what the words give, where they have a form but for the texts of the lists
 abbrev pub words_given : List Text → Option Reading

@@ -3,11 +3,11 @@ use Rattle.std.proofs.Common.{◌≡◌, ◌∙◌, ◌++◌, ℕ, Bool, true, f
 use Rattle.std.proofs.lemmas.Slice.Eq.{bytes_eq-Decides}
 use Rattle.std.specs.Str.{bytes_eq}
 use Rattle.command_words.specs.Forms.{Text, IsRun, IsForm, FormView, name_of as word_of_form, run, wordless, MayGiveOption}
-use Rattle.command_words.specs.Read.{Given, Reading, Says, SaysSome, IsListOrNone, alone, options, wordless_named}
+use Rattle.command_words.specs.Read.{Given, Reading, Says, SaysSome, IsListOrNone, alone, alone_given, options, wordless_named}
 use Rattle.command_words.specs.declared.form.TheConstants.{ALL_WORDLESS}
 use Rattle.command_words.specs.declared.form.Wordless.{Wordless}
 use Rattle.command_words.proofs.Accepted.{is_row, name_of}
-use Rattle.command_words.proofs.Walk.{Which, refuse, broken, alone_given, find-passes, words_given, run_given}
+use Rattle.command_words.proofs.Walk.{Which, refuse, broken, find-passes, words_given, run_given}
 use Rattle.command_words.proofs.Turns.{MayGiveText, AreGiven, IsPlainOrNone, walk_gives, given_walks}
 use Rattle.command_words.proofs.Lists.{list_plain, list_one}
 

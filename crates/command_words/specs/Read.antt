@@ -1,7 +1,7 @@
 -- What the code makes of the matches.
-use Rattle.std.specs.Prelude.{◌≡◌, ℕ, List, [], Option, Some, None, codes, find, if◌then◌else◌, option_map}
+use Rattle.std.specs.Prelude.{◌≡◌, ℕ, List, [], Option, Some, None, codes, find, if◌then◌else◌, unwrap_or}
 use Rattle.std.specs.Str.{bytes_eq}
-use Rattle.clap.specs.Walk.{Row, first_of}
+use Rattle.clap.specs.Walk.{Row, all_of, first_of}
 use Rattle.command_words.specs.declared.form.TheConstants.{ALL_WORDLESS}
 use Rattle.command_words.specs.declared.form.Wordless.{Wordless}
 use Rattle.command_words.specs.Forms.{Text, IsList, FormView, name_of, run, wordless}
@@ -41,9 +41,18 @@ wordless_named name = find (λ form. bytes_eq (name_of form) name) ALL_WORDLESS
 abbrev pub given_in : List Row → Given
 given_in rows = record { refuses = first_of (codes "refuse") rows; breaks = first_of (codes "break") rows }
 
+-- what is given by the words after a form's name, where it has no others
+abbrev pub alone_given : Option Wordless → List Text → Option Reading
+alone_given (Some form) [] = Some (alone form)
+alone_given _ _ = None
+
+-- the words after a subcommand's name
+abbrev pub words_in : List Row → List Text
+words_in rows = unwrap_or (all_of (codes "words") rows) []
+
 -- what was given to the subcommand that was found
 abbrev pub read_found : Option (Text × List Row) → Option Reading
 read_found None = None
 read_found (Some found) =
     if bytes_eq found.0 (codes "run") then Some (options (given_in found.1))
-    else option_map alone (wordless_named found.0)
+    else alone_given (wordless_named found.0) (words_in found.1)

@@ -4,7 +4,7 @@ ghost use Rattle.clap.specs.Matches.{found_of};
 ghost use Rattle.clap.specs.Walk.{rows_of};
 ghost use Rattle.clap.specs.Simple.{subcommand_rows_of};
 ghost use Rattle.command_words.specs.Forms.{FormView};
-ghost use Rattle.command_words.specs.Read.{Says, SaysSome, given_in, read_found, wordless_named};
+ghost use Rattle.command_words.specs.Read.{Says, SaysSome, alone_given, given_in, read_found, wordless_named, words_in};
 ghost use Rattle.command_words.specs.View.{view_of};
 
 use crate::fault::WordsFault;
@@ -45,6 +45,25 @@ fn wordless_named(name: &str) -> Option<Wordless>
         .find(|form| form.name() == name)
 }
 
+/// The form, where no words follow its name.
+fn form_alone(form: Wordless, inner: &ArgMatches) -> Result<Form, WordsFault>
+    ensures ok { IfOk result (λ said. SaysSome
+        (alone_given (Some form) (words_in (rows_of (found_of inner.now)))) (view_of said)) }
+    ensures no_form { result ≡ Err WordsFault.NoForm → (said : FormView) → SaysSome
+        (alone_given (Some form) (words_in (rows_of (found_of inner.now)))) said → ⊥ }
+{
+    match inner.get_strs("words") {
+        None => Ok(Form::Wordless(form)),
+        Some(words) => {
+            if words.is_empty() {
+                Ok(Form::Wordless(form))
+            } else {
+                Err(WordsFault::NoForm)
+            }
+        }
+    }
+}
+
 /// The form that the matches say.
 pub fn form_in(alloc: Global, matches: &ArgMatches) -> Result<Form, WordsFault>
     ensures ok { IfOk result (λ form. SaysSome (read_found (subcommand_rows_of matches.now))
@@ -60,7 +79,7 @@ pub fn form_in(alloc: Global, matches: &ArgMatches) -> Result<Form, WordsFault>
             }
             match wordless_named(name) {
                 None => Err(WordsFault::NoForm),
-                Some(form) => Ok(Form::Wordless(form)),
+                Some(form) => form_alone(form, inner),
             }
         }
     }
