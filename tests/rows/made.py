@@ -198,6 +198,7 @@ def large_inputs():
     """Inputs as large as an input may be, one byte larger, and one that fills the journal."""
     yield Case("line-feeds-at-the-limit", b"\n" * INPUT_LIMIT)
     yield Case("line-feeds-past-the-limit", b"\n" * (INPUT_LIMIT + 1), status=9)
+    yield Case("check-past-the-limit", b"\n" * (INPUT_LIMIT + 1), status=9, words=("check",))
     yield Case("journal-at-the-limit", *full_journal())
 
 

@@ -29,6 +29,8 @@ def edge_cases():
     yield Case("output-full", line, status=5, sink="/dev/full")
     yield Case("output-closed", line, status=5, sink="closed")
     yield Case("output-without-a-reader", line, status=5, sink="no reader")
+    yield Case("check-of-a-folder", status=4, words=("check",), source="/")
+    yield Case("check-output-full", line, status=5, words=("check",), sink="/dev/full")
     yield Case("output-full-for-the-usage", status=5, words=(), sink="/dev/full")
     yield Case("output-full-of-nothing", status=0, sink="/dev/full")
     yield Case("input-is-a-folder-for-the-usage", b"", USAGE, 2, (), source="/")

@@ -1,7 +1,7 @@
 """Rows of what is read and printed: words of the command line, addresses and prefixes, and the columns of bad lines."""
 from case import Case, dialog, done, listed
 
-USAGE = b"usage: netd_run run [--refuse LIST] [--break LIST]\n"
+USAGE = b"usage: netd_run run [--refuse LIST] [--break LIST]\n       netd_run check\n"
 
 # An interface 'w' of network 100, which asks for no permission.
 NETWORK = done("link add w 2", "network create 100 physical none", "interface add 100 w")
@@ -14,6 +14,7 @@ FORMS = {
     "run --break=4294967295": b"",
     "run --refuse=1,20,300 --break=7": b"start: refused at request 1\n",
     "run --break 7 --refuse 1": b"start: refused at request 1\n",
+    "check": b"",
 }
 
 # Words that have none. '_' stands for an empty word.
@@ -42,6 +43,15 @@ NO_FORMS = (
     "--version",
     "-V run",
     "RUN",
+    "chec",
+    "Check",
+    "check check",
+    "check run",
+    "run check",
+    "check --refuse 8",
+    "check _",
+    "check --help",
+    "-V check",
     "soak 7",
 )
 
@@ -109,7 +119,9 @@ BAD_LINES = {
 def text_cases():
     yield from words()
     for line, column in BAD_LINES.items():
-        yield dialog("bad-line-" + line, [(line, "bad line at column %d" % column)], status=3)
+        said = [(line, "bad line at column %d" % column)]
+        yield dialog("bad-line-" + line, said, status=3)
+        yield dialog("check-bad-line-" + line, said, status=3, words=("check",))
     yield dialog("addresses", [*NETWORK, *gateways()])
     yield dialog("prefixes", [*NETWORK, *prefixes()])
     for text in NO_ADDRESSES:

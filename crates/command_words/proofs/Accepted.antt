@@ -1,16 +1,20 @@
 -- Which words the command takes, and what it makes of them.
-use Rattle.std.proofs.Common.{◌≡◌, ◌∙◌, Bool, true, false, List, [], ◌∷◌, Option, Some, None, codes, refl, sym, ap, fold, is_some}
+use Rattle.std.proofs.Common.{◌≡◌, ◌∙◌, Bool, true, false, List, [], ◌∷◌, Option, Some, None, codes, refl, sym, ap, find, fold, is_some, option_map}
+use Rattle.std.specs.Option.{option_map_or}
 use Rattle.std.specs.Str.{bytes_eq}
 use Rattle.clap.specs.Lexer.{long_of, short_of}
 use Rattle.clap.specs.Kinds.{Kinds, or_else}
-use Rattle.clap.specs.Walk.{Row, Rule, Walk, nothing_held, walk_from, walked, settled, settled_rows, used, idle, option, finished, rows_after}
-use Rattle.clap.specs.Simple.{App, Shape, filled, built, built_leaf, inherited, marked_built, with_leaf_noted, names_of, entered, subcommand_of}
+use Rattle.clap.specs.Walk.{Row, Rule, Walk, answers_to, nothing_held, walk_from, walked, settled, settled_rows, used, idle, option, finished, rows_after}
+use Rattle.clap.specs.Simple.{App, Shape, filled, built, built_leaf, inherited, label_of, marked_built, with_leaf_noted, names_of, entered, rows_at, subcommand_of}
 use Rattle.clap.specs.Faults.{fault_of, level_fault, walk_fault, entered_fault, settle_fault, defaults_fault, check_fault, turn_fault, is_simple_and_free}
 use Rattle.clap.proofs.OnLiterals.{clap_on_literals}
 use Rattle.clap.proofs.WalkLemmas.{walk_stopped}
 use Rattle.clap.proofs.FaultLemmas.{stopped_fault}
-use Rattle.command_words.specs.App.{netd_app, run_app, refuse_rule, break_rule}
-use Rattle.command_words.specs.Forms.{Text}
+use Rattle.command_words.specs.App.{named_app, netd_app, run_app, refuse_rule, break_rule}
+use Rattle.command_words.specs.Forms.{Text, name_of as word_of_form}
+use Rattle.command_words.specs.Read.{wordless_named}
+use Rattle.command_words.specs.declared.form.Wordless.{Wordless}
+use Rattle.command_words.specs.declared.form.Wordless.TheVariants.{Check}
 use Rattle.command_words.specs.Refused.{is_refused}
 use Rattle.command_words.proofs.Walk.{Which, refuse, broken}
 
@@ -45,22 +49,49 @@ left name rest = fold (walked whole.top.rules (names_of whole)) (after_name name
 left_is : (name : Text) (rest : List Text) → left name rest ≡ after_name name rest
 left_is name rest = sym (walk_stopped whole.top.rules (names_of whole) (after_name name []) name [] rest)
 
-pub run_starts : (rest : List Text) → fault_of netd_app (codes "run" ∷ rest) ≡ from_end (codes "run") rest (left (codes "run") rest)
-unfolding clap_on_literals
-run_starts rest = refl
+-- a subcommand of this name, which is built so
+pub record IsSub (name : Text) (below : Shape) : Type 0 where
+  pub met : find (answers_to name) (names_of whole) ≡ Some (name, [])
+  pub here : find (λ (s : Shape). answers_to name (label_of s)) whole.subs ≡ Some below
+  pub named : below.name ≡ name
+  pub no_help : bytes_eq name (codes "help") ≡ false
+  pub refused : is_refused name ≡ false
 
-pub run_ends : (rest : List Text) → from_end (codes "run") rest (after_name (codes "run") rest) ≡ level_fault (leaf run_app) [] nothing_held rest false []
-unfolding clap_on_literals
-run_ends rest = ap (λ k. or_else k (or_else (level_fault (leaf run_app) [] nothing_held rest false []) []))
-    (stopped_fault whole.top (names_of whole) (after_name (codes "run") []) (codes "run", []) rest)
-    ∙ or_else-nil (level_fault (leaf run_app) [] nothing_held rest false [])
+pub run_is_sub : IsSub (codes "run") (leaf run_app)
+run_is_sub = record { met = refl; here = refl; named = refl; no_help = refl; refused = refl }
 
-pub run_fault_is : (rest : List Text) → fault_of netd_app (codes "run" ∷ rest) ≡ level_fault (leaf run_app) [] nothing_held rest false []
-run_fault_is rest = run_starts rest ∙ ap (from_end (codes "run") rest) (left_is (codes "run") rest) ∙ run_ends rest
+module _ (name : Text) (below : Shape) (sub : IsSub name below) (rest : List Text) where
+  abbrev below_fault : Shape → Kinds
+  below_fault s = level_fault s [] nothing_held rest false []
 
-pub run_found : (rest : List Text) → subcommand_of netd_app (codes "run" ∷ rest) ≡ Some (codes "run", rows_after (leaf run_app).rules [] rest)
-unfolding clap_on_literals
-run_found rest = ap (λ (w : Walk). entered whole w.stopped) (left_is (codes "run") rest)
+  name_fault : turn_fault whole.top (names_of whole) (walk_from nothing_held) name ≡ []
+  name_fault = rw (sub.met, sub.no_help) refl
+
+  name_goes : walked whole.top.rules (names_of whole) (walk_from nothing_held) name ≡ after_name name []
+  unfolding walked
+  name_goes = rw sub.met refl
+
+  sub_starts : fault_of netd_app (name ∷ rest) ≡ from_end name rest (left name rest)
+  unfolding walk_fault
+  sub_starts = rw (name_fault, name_goes) refl
+
+  sub_ends : from_end name rest (after_name name rest) ≡ level_fault below [] nothing_held rest false []
+  unfolding clap_on_literals
+  sub_ends =
+      ap (λ (o : Option Shape). or_else (walk_fault whole.top (names_of whole) (after_name name []) rest) (or_else (option_map_or below_fault o [])
+      (check_fault whole.top [] (is_some (option_map (λ (s : Shape). rows_at s rest) o))))) sub.here
+      ∙ ap (λ k. or_else k (or_else (below_fault below) [])) (stopped_fault whole.top (names_of whole) (after_name name []) (name, []) rest)
+      ∙ or_else-nil (below_fault below)
+
+  pub sub_fault_is : fault_of netd_app (name ∷ rest) ≡ level_fault below [] nothing_held rest false []
+  sub_fault_is = sub_starts ∙ ap (from_end name rest) (left_is name rest) ∙ sub_ends
+
+  pub sub_found : subcommand_of netd_app (name ∷ rest) ≡ Some (name, rows_after below.rules [] rest)
+  unfolding clap_on_literals
+  sub_found =
+      ap (λ (w : Walk). entered whole w.stopped) (ap (λ (w : Walk). fold (walked whole.top.rules (names_of whole)) w rest) name_goes ∙ left_is name rest)
+      ∙ ap (λ (o : Option Shape). option_map (λ (s : Shape). (s.name, rows_after s.rules [] rest)) o) sub.here
+      ∙ ap (λ (n : Text). Some (n, rows_after below.rules [] rest)) sub.named
 
 -- ---- what the code makes of the matches
 
@@ -70,6 +101,27 @@ IsClean w = (bytes_eq w (codes "--") ≡ false) × (short_of w ≡ None) × (is_
 
 abbrev pub Long : Type 0
 Long = Option (Text × Option Text)
+
+-- ---- the words of a subcommand that is built so
+
+-- what is left to say at the end of the words
+abbrev pub end_fault : Shape → Walk → Kinds
+end_fault below w =
+    or_else (settle_fault below.rules false w.held) (or_else (defaults_fault (settled below.rules w.held).rows below.rules) (check_fault below (finished below.rules w.held) false))
+
+-- the faults of the words from a walk on, and the rows at their end
+abbrev pub faults_from : Shape → Walk → List Text → Kinds
+faults_from below w ws = or_else (walk_fault below [] w ws) (end_fault below (fold (walked below.rules []) w ws))
+
+abbrev pub rows_from : Shape → Walk → List Text → List Row
+rows_from below w ws = finished below.rules (fold (walked below.rules []) w ws).held
+
+-- one word that has no fault
+pub tail_step : (below : Shape) (w next_walk : Walk) (x : Text) (ws : List Text) → turn_fault below [] w x ≡ [] → walked below.rules [] w x ≡ next_walk → faults_from below w (x ∷ ws) ≡ faults_from below next_walk ws
+unfolding walk_fault
+tail_step below w next_walk x ws none goes =
+    ap (λ (k : Kinds). or_else (or_else k (walk_fault below [] (walked below.rules [] w x) ws)) (end_fault below (fold (walked below.rules []) (walked below.rules [] w x) ws))) none
+    ∙ ap (λ (v : Walk). faults_from below v ws) goes
 
 -- ---- `run`
 
@@ -97,13 +149,10 @@ open_walk o rows = record { held = record { rows = rows; pending = Some (name_of
 
 -- the faults of the words from a walk on, and the rows at their end
 abbrev pub tail_fault : Walk → List Text → Kinds
-tail_fault w ws =
-    let end = (fold (walked run_leaf.rules []) w ws).held in
-    or_else (walk_fault run_leaf [] w ws) (or_else (settle_fault run_leaf.rules false end)
-    (or_else (defaults_fault (settled run_leaf.rules end).rows run_leaf.rules) (check_fault run_leaf (finished run_leaf.rules end) false)))
+tail_fault w ws = faults_from run_leaf w ws
 
 abbrev pub tail_rows : Walk → List Text → List Row
-tail_rows w ws = finished run_leaf.rules (fold (walked run_leaf.rules []) w ws).held
+tail_rows w ws = rows_from run_leaf w ws
 
 pub run_starts_idle : (ws : List Text) → level_fault run_leaf [] nothing_held ws false [] ≡ tail_fault (idle_walk [] None) ws
 unfolding clap_on_literals
@@ -136,18 +185,6 @@ pub idle_stranger : (rows : List Row) (p : Option (Text × List Text)) (x : Text
 unfolding clap_on_literals
 idle_stranger rows p x ws n v cx lx nr nb = rw (cx.0, lx, nr, nb) refl
 
--- one word that has no fault
-pub tail_step : (w next_walk : Walk) (x : Text) (ws : List Text) → turn_fault run_leaf [] w x ≡ [] → walked run_leaf.rules [] w x ≡ next_walk → tail_fault w (x ∷ ws) ≡ tail_fault next_walk ws
-unfolding walk_fault
-tail_step w next_walk x ws none goes =
-    ap (λ (k : Kinds). or_else (or_else k (walk_fault run_leaf [] (walked run_leaf.rules [] w x) ws)) (after (walked run_leaf.rules [] w x))) none
-    ∙ ap (λ (v : Walk). tail_fault v ws) goes
-  where
-    after : Walk → Kinds
-    after v =
-        let end = (fold (walked run_leaf.rules []) v ws).held in
-        or_else (settle_fault run_leaf.rules false end) (or_else (defaults_fault (settled run_leaf.rules end).rows run_leaf.rules) (check_fault run_leaf (finished run_leaf.rules end) false))
-
 pub idle_bare_turn : (rows : List Row) (p : Option (Text × List Text)) (x : Text) (o : Which) → IsClean x → long_of x ≡ Some (name_of o, None) → pending_fault rows p ≡ [] → turn_fault run_leaf [] (idle_walk rows p) x ≡ []
 unfolding clap_on_literals
 idle_bare_turn rows p x refuse cx lx fits = rw (cx.0, lx, fits) refl
@@ -159,10 +196,26 @@ idle_bare_goes rows p x refuse cx lx = rw (cx.0, lx) refl
 idle_bare_goes rows p x broken cx lx = rw (cx.0, lx) refl
 
 -- the first word is none of the subcommands
-pub unknown_fails : (w : Text) (ws : List Text) (o : Long) → IsClean w → long_of w ≡ o → bytes_eq (codes "run") w ≡ false → is_fault (fault_of netd_app (w ∷ ws)) ≡ true
+pub unknown_fails : (w : Text) (ws : List Text) (o : Long) → IsClean w → long_of w ≡ o → find (answers_to w) (names_of whole) ≡ None → is_fault (fault_of netd_app (w ∷ ws)) ≡ true
 unfolding clap_on_literals
-unknown_fails w ws None cw lw nr = rw (nr, cw.0, lw, cw.1) refl
-unknown_fails w ws (Some p) cw lw nr = rw (nr, cw.0, lw) refl
+unknown_fails w ws None cw lw none = rw (none, cw.0, lw, cw.1) refl
+unknown_fails w ws (Some p) cw lw none = rw (none, cw.0, lw) refl
+
+-- ---- a form whose only word is its name
+
+-- a subcommand of this name, as it is built
+abbrev pub named_leaf : Text → Shape
+named_leaf name = leaf (named_app name)
+
+-- what is so of each of these forms, by its word
+pub record IsRow (form : Wordless) : Type 0 where
+  pub sub : IsSub (word_of_form form) (named_leaf (word_of_form form))
+  pub apart : bytes_eq (codes "run") (word_of_form form) ≡ false
+  pub other : bytes_eq (word_of_form form) (codes "run") ≡ false
+  pub found : wordless_named (word_of_form form) ≡ Some form
+
+pub is_row : (form : Wordless) → IsRow form
+is_row Check = record { sub = record { met = refl; here = refl; named = refl; no_help = refl; refused = refl }; apart = refl; other = refl; found = refl }
 
 pub no_words_fail : is_fault (fault_of netd_app []) ≡ true
 unfolding clap_on_literals

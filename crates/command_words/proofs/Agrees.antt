@@ -1,45 +1,105 @@
 -- What `clap` makes of the words is what the walk over them makes.
-use Rattle.std.proofs.Common.{◌≡◌, ◌∙◌, ◌||◌, Bool, true, false, List, [], ◌∷◌, Option, Some, None, codes, refl, sym, ap, ap₂, subst, if◌then◌else◌, is_some}
+use Rattle.std.proofs.Common.{◌≡◌, ◌∙◌, ◌||◌, Bool, true, false, List, [], ◌∷◌, Option, Some, None, codes, refl, sym, ap, ap₂, subst, if◌then◌else◌, is_some, find, map, option_map, length, nat_lt, not, ◌&&◌}
+use Rattle.std.specs.List.{list_all}
 use Rattle.std.proofs.lemmas.Slice.Eq.{bytes_eq-Decides}
 use Rattle.std.specs.Str.{bytes_eq}
 use Rattle.clap.specs.Lexer.{long_of}
 use Rattle.clap.specs.Kinds.{Kinds, IsAmong}
 use Rattle.clap.specs.declared.error.kind.ErrorKind.{ErrorKind}
-use Rattle.clap.specs.Walk.{Row}
+use Rattle.clap.specs.Walk.{Row, answers_to, nothing_held, rows_after}
 use Rattle.clap.specs.Simple.{App, subcommand_of}
-use Rattle.clap.specs.Faults.{fault_of}
+use Rattle.clap.specs.Faults.{fault_of, level_fault}
 use Rattle.command_words.specs.App.{netd_app}
-use Rattle.command_words.specs.Forms.{Text}
-use Rattle.command_words.specs.Read.{Given, read_found}
+use Rattle.command_words.specs.Forms.{Text, name_of as word_of_form}
+use Rattle.command_words.specs.declared.form.TheConstants.{ALL_WORDLESS}
+use Rattle.command_words.specs.declared.form.Wordless.{Wordless}
+use Rattle.command_words.specs.Read.{Given, Reading, alone_given, given_in, options, read_found, wordless_named, words_in}
 use Rattle.command_words.specs.Refused.{is_refused, has_refused}
-use Rattle.command_words.proofs.Walk.{Which, Word, with_given, given_of, given_once, words_given, run_given, run_from, run_step, idle_step, value_step, word_of, text_word, nothing_given}
+use Rattle.command_words.proofs.Walk.{Which, Word, find-passes, with_given, given_of, given_once, words_given, run_given, run_from, run_step, idle_step, value_step, word_of, text_word, nothing_given}
 use Rattle.command_words.proofs.Walk.{plain as plain_word, stranger as stranger_word, bare as bare_word, attached as attached_word}
-use Rattle.command_words.proofs.Accepted.{is_fault, IsClean, run_fault_is, run_found, run_starts_idle, run_rows_idle, unknown_fails, no_words_fail}
+use Rattle.command_words.proofs.Accepted.{is_fault, IsClean, idle_walk, is_row, run_is_sub, run_leaf, run_starts_idle, run_rows_idle, sub_fault_is, sub_found, tail_fault, tail_rows, named_leaf, unknown_fails, no_words_fail}
 use Rattle.command_words.proofs.Run.{holds_nothing}
-use Rattle.command_words.proofs.RunAgrees.{AreClean, idle_agrees}
+use Rattle.command_words.proofs.RunAgrees.{AreClean, answer, idle_agrees}
+use Rattle.command_words.proofs.Following.{is_plain, read_words, taken, words_taken}
 use Rattle.command_words.proofs.Words.{clean_from}
 
 -- what the code reads, from the faults and the subcommand that was found
-abbrev pub outcome : Kinds → Option (Text × List Row) → Option Given
+abbrev pub outcome : Kinds → Option (Text × List Row) → Option Reading
 outcome k found = if is_fault k then None else read_found found
 
 refused : (words : List Text) → is_fault (fault_of netd_app words) ≡ true → outcome (fault_of netd_app words) (subcommand_of netd_app words) ≡ None
 refused words fails = ap (λ b. if b then None else read_found (subcommand_of netd_app words)) fails
 
-abbrev Agrees : Text → List Text → Option Given → Type 0
+abbrev Agrees : Text → List Text → Option Reading → Type 0
 Agrees name rest given = outcome (fault_of netd_app (name ∷ rest)) (subcommand_of netd_app (name ∷ rest)) ≡ given
 
-run_agrees : (rest : List Text) → AreClean rest → Agrees (codes "run") rest (run_given rest)
+-- the same of the options of `run`
+run_outcome : (k : Kinds) (rows : List Row) → outcome k (Some (codes "run", rows)) ≡ option_map options (answer k rows)
+run_outcome [] rows = refl
+run_outcome (k ∷ ks) rows = refl
+
+run_agrees : (rest : List Text) → AreClean rest → Agrees (codes "run") rest (option_map options (run_given rest))
 run_agrees rest clean =
-    ap₂ outcome (run_fault_is rest ∙ run_starts_idle rest) (run_found rest ∙ ap (λ (rows : List Row). Some (codes "run", rows)) (run_rows_idle rest))
-    ∙ idle_agrees rest clean [] None nothing_given refl holds_nothing
+    ap₂ outcome (sub_fault_is (codes "run") run_leaf run_is_sub rest ∙ run_starts_idle rest)
+    (sub_found (codes "run") run_leaf run_is_sub rest ∙ ap (λ (rows : List Row). Some (codes "run", rows)) (run_rows_idle rest))
+    ∙ run_outcome (tail_fault (idle_walk [] None) rest) (tail_rows (idle_walk [] None) rest)
+    ∙ ap (option_map options) (idle_agrees rest clean [] None nothing_given refl holds_nothing)
 
 named : (name w : Text) → bytes_eq name w ≡ true → name ≡ w
 named name w e = (bytes_eq-Decides name w).0 e
 
-any_agrees : (w : Text) (rest : List Text) (b : Bool) → bytes_eq (codes "run") w ≡ b → IsClean w → AreClean rest → Agrees w rest (if b then run_given rest else None)
-any_agrees w rest true e cw cs = subst (λ (v : Text). Agrees v rest (run_given rest)) (named (codes "run") w e) (run_agrees rest cs)
-any_agrees w rest false e cw cs = refused (w ∷ rest) (unknown_fails w rest (long_of w) cw refl e)
+-- the words after a name are read, where a form of the name takes no words that `clap` doesn't take
+named_outcome : (name : Text) (given : List Text → Option Reading) → ((l : List Text) → taken l ≡ None → given l ≡ None) → (k : Kinds) (rows : List Row) (ws : List Text)
+    → read_words name k rows ≡ taken ws → (if is_fault k then None else given (words_in rows)) ≡ given ws
+named_outcome name given none k rows ws read = by (is_fault k) read
+  where
+    same : (t : Bool) → Some (words_in rows) ≡ (if t then Some ws else None) → given (words_in rows) ≡ given ws
+    same true e = let equal : words_in rows ≡ ws = cc in ap given equal
+    same false e = absurd (let no : ◌≡◌ {A = Option (List Text)} (Some (words_in rows)) None = e in cc)
+
+    by : (b : Bool) → (if b then None else Some (words_in rows)) ≡ taken ws → (if b then None else given (words_in rows)) ≡ given ws
+    by true e = sym (none ws (sym e))
+    by false e = same (list_all is_plain ws && not (nat_lt 4 (length ws))) e
+
+-- a form's word, and words after it
+alone_agrees : (form : Wordless) (rest : List Text) → AreClean rest → Agrees (word_of_form form) rest (alone_given (Some form) rest)
+alone_agrees form rest clean =
+    let row = is_row form in
+    let name = word_of_form form in
+    ap₂ outcome (sub_fault_is name (named_leaf name) row.sub rest) (sub_found name (named_leaf name) row.sub rest)
+    ∙ ap₂ (λ a o. if is_fault (fault name) then None else (if a then Some (options (given_in (rows name))) else alone_given o (words_in (rows name)))) row.other row.found
+    ∙ named_outcome name (alone_given (Some form)) none (fault name) (rows name) rest (words_taken name rest clean)
+  where
+    fault : Text → Kinds
+    fault name = level_fault (named_leaf name) [] nothing_held rest false []
+
+    rows : Text → List Row
+    rows name = rows_after (named_leaf name).rules [] rest
+
+    none : (l : List Text) → taken l ≡ None → alone_given (Some form) l ≡ None
+    none [] e = absurd (let no : ◌≡◌ {A = Option (List Text)} (Some []) None = e in cc)
+    none (x ∷ xs) e = refl
+
+-- a word that names none of these forms names none of their subcommands
+names_none : (w : Text) (forms : List Wordless) → find (λ form. bytes_eq (word_of_form form) w) forms ≡ None → find (answers_to w) (map (λ form. (word_of_form form, [])) forms) ≡ None
+names_none w [] none = refl
+names_none w (form ∷ forms) none = by (bytes_eq (word_of_form form) w) none (names_none w forms)
+  where
+    by : (b : Bool) → (if b then Some form else find (λ other. bytes_eq (word_of_form other) w) forms) ≡ None
+        → (find (λ other. bytes_eq (word_of_form other) w) forms ≡ None → find (answers_to w) (map (λ other. (word_of_form other, [])) forms) ≡ None)
+        → (if b || false then Some (word_of_form form, []) else find (answers_to w) (map (λ other. (word_of_form other, [])) forms)) ≡ None
+    by true e rest = absurd (cc)
+    by false e rest = rest e
+
+any_agrees : (w : Text) (rest : List Text) (b : Bool) → bytes_eq (codes "run") w ≡ b → IsClean w → AreClean rest → Agrees w rest (if b then option_map options (run_given rest) else alone_given (wordless_named w) rest)
+any_agrees w rest true e cw cs = subst (λ (v : Text). Agrees v rest (option_map options (run_given rest))) (named (codes "run") w e) (run_agrees rest cs)
+any_agrees w rest false e cw cs = by (wordless_named w) refl
+  where
+    by : (o : Option Wordless) → wordless_named w ≡ o → Agrees w rest (alone_given o rest)
+    by (Some form) found = subst (λ (v : Text). Agrees v rest (alone_given (Some form) rest))
+        (named (word_of_form form) w (find-passes (λ (f : Wordless). bytes_eq (word_of_form f) w) ALL_WORDLESS form found)) (alone_agrees form rest cs)
+    by None none = refused (w ∷ rest) (unknown_fails w rest (long_of w) cw refl
+        (ap (λ b. if b || false then Some (codes "run", []) else find (answers_to w) (map (λ form. (word_of_form form, [])) ALL_WORDLESS)) e ∙ names_none w ALL_WORDLESS none))
 
 -- with no refused word, `clap` and the walk agree
 pub clean_agrees : (words : List Text) → AreClean words → outcome (fault_of netd_app words) (subcommand_of netd_app words) ≡ words_given words
@@ -88,17 +148,30 @@ run_refused (w ∷ ws) h waiting g = by (is_refused w) refl h (run_refused ws)
     by true d k ih = step_is waiting ∙ ap (λ (b : Bool). elim_step waiting g w (if b then stranger_word else text_word w) (λ o k. run_from o k ws)) d ∙ stranger_none waiting
     by false d k ih = step_is waiting ∙ step_none waiting g w (word_of w) (λ o k. run_from o k ws) (ih k)
 
+-- nothing is given by a form's word with words after it
 pub refused_none : (words : List Text) → has_refused words ≡ true → words_given words ≡ None
 refused_none [] e = cc
 refused_none (w ∷ rest) e = by (bytes_eq (codes "run") w) refl
   where
-    in_rest : (b : Bool) → is_refused w ≡ b → (b || has_refused rest) ≡ true → codes "run" ≡ w → has_refused rest ≡ true
-    in_rest true d h same = let bad : false ≡ true = ap is_refused same ∙ d in cc
-    in_rest false d h same = h
+    in_rest : (name : Text) → is_refused name ≡ false → name ≡ w → has_refused rest ≡ true
+    in_rest name plain same = go (is_refused w) (ap is_refused (sym same) ∙ plain) e
+      where
+        go : (b : Bool) → b ≡ false → (b || has_refused rest) ≡ true → has_refused rest ≡ true
+        go true is h = let bad : true ≡ false = is in cc
+        go false is h = h
 
-    by : (b : Bool) → bytes_eq (codes "run") w ≡ b → (if b then run_given rest else None) ≡ None
-    by true same = run_refused rest (in_rest (is_refused w) refl e (named (codes "run") w same)) None nothing_given
-    by false same = refl
+    after_word : (form : Wordless) (ws : List Text) → has_refused ws ≡ true → alone_given (Some form) ws ≡ None
+    after_word form [] h = cc
+    after_word form (x ∷ xs) h = refl
+
+    alone_none : (o : Option Wordless) → wordless_named w ≡ o → alone_given o rest ≡ None
+    alone_none None none = refl
+    alone_none (Some form) found = after_word form rest
+        (in_rest (word_of_form form) (is_row form).sub.refused (named (word_of_form form) w (find-passes (λ (f : Wordless). bytes_eq (word_of_form f) w) ALL_WORDLESS form found)))
+
+    by : (b : Bool) → bytes_eq (codes "run") w ≡ b → (if b then option_map options (run_given rest) else alone_given (wordless_named w) rest) ≡ None
+    by true same = ap (option_map options) (run_refused rest (in_rest (codes "run") refl (named (codes "run") w same)) None nothing_given)
+    by false same = alone_none (wordless_named w) refl
 
 are_clean : (words : List Text) → has_refused words ≡ false → AreClean words
 are_clean [] e = tt

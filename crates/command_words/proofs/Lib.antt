@@ -3,6 +3,7 @@ pub mod Accepted
 pub mod Words
 pub mod Run
 pub mod RunAgrees
+pub mod Following
 pub mod Agrees
 pub mod Turns
 pub mod Whole

@@ -92,7 +92,7 @@ idle_more x ws cx (stranger n v l nr nb) idle open_ rows p g fits h = failed (id
     ∙ sym (ap (λ (w : Word). idle_step g w (λ o k. run_from o k ws)) (word_stranger x n v cx l nr nb))
 idle_more x ws cx (bare o l) idle open_ rows p g fits h =
     let goes = idle_bare_goes rows p x o cx l in
-    stepped (idle_walk rows p) (open_walk o (rows_with rows p)) x ws (tail_step (idle_walk rows p) _ x ws (idle_bare_turn rows p x o cx l fits) goes) goes
+    stepped (idle_walk rows p) (open_walk o (rows_with rows p)) x ws (tail_step run_leaf (idle_walk rows p) _ x ws (idle_bare_turn rows p x o cx l fits) goes) goes
     ∙ open_ o (rows_with rows p) g h ∙ sym (ap (λ (w : Word). idle_step g w (λ q k. run_from q k ws)) (word_bare x o cx l))
 idle_more x ws cx (attached o t l) idle open_ rows p g fits h = by (given_of g o) refl
     ∙ sym (ap (λ (w : Word). idle_step g w (λ q k. run_from q k ws)) (word_attached x t o cx l))
@@ -101,7 +101,7 @@ idle_more x ws cx (attached o t l) idle open_ rows p g fits h = by (given_of g o
     by None e =
         let goes = idle_attached_goes rows p x t o cx l in
         stepped (idle_walk rows p) (idle_walk (after_use o t (rows_with rows p)) None) x ws
-        (tail_step (idle_walk rows p) _ x ws (idle_attached_turn rows p x t o cx l fits (h.has o ∙ ap is_some e)) goes) goes
+        (tail_step run_leaf (idle_walk rows p) _ x ws (idle_attached_turn rows p x t o cx l fits (h.has o ∙ ap is_some e)) goes) goes
         ∙ idle (after_use o t (rows_with rows p)) None (with_given g o t) refl (holds_use o t (rows_with rows p) g h e)
         ∙ sym (once_new g o t (λ k. run_from None k ws) e)
     by (Some v) e = failed (idle_walk rows p) (x ∷ ws) (idle_attached_again rows p x t o ws cx l fits (h.has o ∙ ap is_some e)) ∙ sym (once_again g o t v (λ k. run_from None k ws) e)
@@ -123,7 +123,7 @@ open_more y ws cy clean (plain l) idle o rs g h = by (given_of g o) refl ∙ sym
     goes = open_plain_goes o rs y cy l
 
     moved : from_walk (open_walk o rs) (y ∷ ws) ≡ from_walk (idle_walk rs (Some (name_of o, y ∷ []))) ws
-    moved = stepped (open_walk o rs) (idle_walk rs (Some (name_of o, y ∷ []))) y ws (tail_step (open_walk o rs) _ y ws (open_plain_turn o rs y cy l) goes) goes
+    moved = stepped (open_walk o rs) (idle_walk rs (Some (name_of o, y ∷ []))) y ws (tail_step run_leaf (open_walk o rs) _ y ws (open_plain_turn o rs y cy l) goes) goes
 
     by : (v : Option Text) → given_of g o ≡ v → from_walk (open_walk o rs) (y ∷ ws) ≡ given_once g o y (λ k. run_from None k ws)
     by None e = moved

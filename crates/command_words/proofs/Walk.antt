@@ -1,8 +1,8 @@
 -- The words after `run`, taken one at a time: what stands between the forms and what `clap` does.
-use Rattle.std.proofs.Common.{◌==◌, List, [], ◌∷◌, Option, Some, None, codes, if◌then◌else◌, is_some}
+use Rattle.std.proofs.Common.{◌≡◌, ◌∙◌, ◌==◌, Bool, true, false, refl, sym, ap, find, List, [], ◌∷◌, Option, Some, None, codes, if◌then◌else◌, is_some, option_map}
 use Rattle.std.specs.Str.{bytes_eq}
 use Rattle.command_words.specs.Forms.{Text}
-use Rattle.command_words.specs.Read.{Given}
+use Rattle.command_words.specs.Read.{Given, Reading, alone_given, options, wordless_named}
 use Rattle.command_words.specs.Refused.{is_refused}
 
 -- the two options of `run`
@@ -84,7 +84,16 @@ run_from waiting g (w ∷ ws) = run_step waiting g w (λ o h. run_from o h ws)
 abbrev pub run_given : List Text → Option Given
 run_given ws = run_from None nothing_given ws
 
--- what the words give to `run`, where they have its form but for the texts of the lists
-abbrev pub words_given : List Text → Option Given
+-- what the words give, where they have a form but for the texts of the lists
+abbrev pub words_given : List Text → Option Reading
 words_given [] = None
-words_given (w ∷ rest) = if bytes_eq (codes "run") w then run_given rest else None
+words_given (w ∷ rest) = if bytes_eq (codes "run") w then option_map options (run_given rest) else alone_given (wordless_named w) rest
+
+-- what is found passes
+pub find-passes : {X : Type 0} (p : X → Bool) (xs : List X) (x : X) → find p xs ≡ Some x → p x ≡ true
+find-passes p [] x e = absurd (let none : None ≡ Some x = e in cc)
+find-passes p (y ∷ ys) x e = by (p y) refl e (find-passes p ys x)
+  where
+    by : (b : Bool) → p y ≡ b → (if b then Some y else find p ys) ≡ Some x → (find p ys ≡ Some x → p x ≡ true) → p x ≡ true
+    by true passes found rest = let same : y ≡ x = cc in ap p (sym same) ∙ passes
+    by false fails found rest = rest found

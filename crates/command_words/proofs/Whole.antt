@@ -1,11 +1,13 @@
 -- The forms, and what the walk over the words gives.
-use Rattle.std.proofs.Common.{◌≡◌, ◌∙◌, ◌++◌, ℕ, Bool, true, false, List, [], ◌∷◌, Option, Some, None, codes, refl, sym, ap, subst, if◌then◌else◌, inl, inr}
+use Rattle.std.proofs.Common.{◌≡◌, ◌∙◌, ◌++◌, ℕ, Bool, true, false, List, [], ◌∷◌, Option, Some, None, codes, refl, sym, ap, subst, if◌then◌else◌, inl, inr, option_map}
 use Rattle.std.proofs.lemmas.Slice.Eq.{bytes_eq-Decides}
 use Rattle.std.specs.Str.{bytes_eq}
-use Rattle.command_words.specs.Forms.{Text, IsRun, IsForm, FormView, run, MayGiveOption}
-use Rattle.command_words.specs.Read.{Given, Says, SaysSome, IsListOrNone}
-use Rattle.command_words.proofs.Accepted.{name_of}
-use Rattle.command_words.proofs.Walk.{Which, refuse, broken, words_given, run_given}
+use Rattle.command_words.specs.Forms.{Text, IsRun, IsForm, FormView, name_of as word_of_form, run, wordless, MayGiveOption}
+use Rattle.command_words.specs.Read.{Given, Reading, Says, SaysSome, IsListOrNone, alone, alone_given, options, wordless_named}
+use Rattle.command_words.specs.declared.form.TheConstants.{ALL_WORDLESS}
+use Rattle.command_words.specs.declared.form.Wordless.{Wordless}
+use Rattle.command_words.proofs.Accepted.{is_row, name_of}
+use Rattle.command_words.proofs.Walk.{Which, refuse, broken, find-passes, words_given, run_given}
 use Rattle.command_words.proofs.Turns.{MayGiveText, AreGiven, IsPlainOrNone, walk_gives, given_walks}
 use Rattle.command_words.proofs.Lists.{list_plain, list_one}
 
@@ -32,27 +34,48 @@ run_from_given w rest g refuses breaks same given says = record {
   ];
 }
 
+-- what a form's word alone gives
+alone_says : (w : Text) (rest : List Text) (form : FormView) → SaysSome (alone_given (wordless_named w) rest) form → IsForm (w ∷ rest) form
+alone_says w rest form h = by (wordless_named w) refl rest h
+  where
+    word_is : (only : Wordless) → wordless_named w ≡ Some only → word_of_form only ≡ w
+    word_is only found = (bytes_eq-Decides (word_of_form only) w).0 (find-passes (λ (f : Wordless). bytes_eq (word_of_form f) w) ALL_WORDLESS only found)
+
+    by : (o : Option Wordless) → wordless_named w ≡ o → (ws : List Text) → SaysSome (alone_given o ws) form → IsForm (w ∷ ws) form
+    by None found ws k = absurd k
+    by (Some only) found [] k = subst (IsForm (w ∷ [])) (sym k) (ap (λ (v : Text). v ∷ []) (sym (word_is only found)))
+    by (Some only) found (x ∷ xs) k = absurd k
+
 -- what the walk gives says a form of the words
 pub form_from_given : (words : List Text) (form : FormView) → SaysSome (words_given words) form → IsForm words form
 form_from_given [] form h = absurd h
-form_from_given (w ∷ rest) (run refuses breaks) h = by (bytes_eq (codes "run") w) refl h
+form_from_given (w ∷ rest) form h = by (bytes_eq (codes "run") w) refl h
   where
-    in_run : (o : Option Given) → run_given rest ≡ o → codes "run" ≡ w → SaysSome o (run refuses breaks) → IsRun (w ∷ rest) refuses breaks
-    in_run None e same k = absurd k
-    in_run (Some g) e same k = run_from_given w rest g refuses breaks same (walk_gives rest g e) k
+    in_run : (o : Option Given) → run_given rest ≡ o → codes "run" ≡ w → (f : FormView) → SaysSome (option_map options o) f → IsForm (w ∷ rest) f
+    in_run None e same f k = absurd k
+    in_run (Some g) e same (run refuses breaks) k = run_from_given w rest g refuses breaks same (walk_gives rest g e) k
+    in_run (Some g) e same (wordless only) k = absurd k
 
-    by : (b : Bool) → bytes_eq (codes "run") w ≡ b → SaysSome (if b then run_given rest else None) (run refuses breaks) → IsRun (w ∷ rest) refuses breaks
-    by true e k = in_run (run_given rest) refl ((bytes_eq-Decides (codes "run") w).0 e) k
-    by false e k = absurd k
+    by : (b : Bool) → bytes_eq (codes "run") w ≡ b → SaysSome (if b then option_map options (run_given rest) else alone_given (wordless_named w) rest) form → IsForm (w ∷ rest) form
+    by true e k = in_run (run_given rest) refl ((bytes_eq-Decides (codes "run") w).0 e) form k
+    by false e k = alone_says w rest form k
 
 given_from_parts : (words first second : List Text) (refuses breaks : List ℕ) (x y : Option Text) → words ≡ codes "run" ∷ (first ++ second) → AreGiven (first ++ second) (record { refuses = x; breaks = y }) → IsListOrNone x refuses → IsListOrNone y breaks
     → SaysSome (words_given words) (run refuses breaks)
 given_from_parts words first second refuses breaks x y whole given one two =
-    let walks : words_given words ≡ Some (record { refuses = x; breaks = y }) = ap words_given whole ∙ given_walks (first ++ second) x y given (plain_or_none x refuses one) (plain_or_none y breaks two) in
-    subst (λ (o : Option Given). SaysSome o (run refuses breaks)) (sym walks) (one, two)
+    let walks : words_given words ≡ Some (options (record { refuses = x; breaks = y })) =
+    ap words_given whole ∙ ap (option_map options) (given_walks (first ++ second) x y given (plain_or_none x refuses one) (plain_or_none y breaks two)) in
+    subst (λ (o : Option Reading). SaysSome o (run refuses breaks)) (sym walks) (one, two)
+
+-- a form's word alone
+given_from_word : (only : Wordless) → words_given (word_of_form only ∷ []) ≡ Some (alone only)
+given_from_word only = let row = is_row only in
+    ap (λ (b : Bool). if b then option_map options (run_given []) else alone_given (wordless_named (word_of_form only)) []) row.apart
+    ∙ ap (λ (o : Option Wordless). alone_given o []) row.found
 
 -- every form of the words is said by what the walk gives
 pub given_from_form : (words : List Text) (form : FormView) → IsForm words form → SaysSome (words_given words) form
+given_from_form words (wordless only) h = subst (λ (o : Option Reading). SaysSome o (wordless only)) (sym (ap words_given h ∙ given_from_word only)) refl
 given_from_form words (run refuses breaks) h = elim h.options [
   | inl o ↦
       let x = text_from_option refuse h.first refuses o.0 in
@@ -70,9 +93,12 @@ list_or_none_one : (x : Option Text) (ns ms : List ℕ) → IsListOrNone x ns �
 list_or_none_one None ns ms a b = a ∙ sym b
 list_or_none_one (Some t) ns ms a b = list_one t ns ms a b
 
-says_one : (o : Option Given) (form other : FormView) → SaysSome o form → SaysSome o other → form ≡ other
+says_one : (o : Option Reading) (form other : FormView) → SaysSome o form → SaysSome o other → form ≡ other
 says_one None form other a b = absurd a
-says_one (Some g) (run r b) (run r' b') a c =
+says_one (Some (alone only)) form other a b = a ∙ sym b
+says_one (Some (options g)) (wordless only) other a b = absurd a
+says_one (Some (options g)) (run r b) (wordless only) a c = absurd c
+says_one (Some (options g)) (run r b) (run r' b') a c =
     ap (λ (l : List ℕ). run l b) (list_or_none_one g.refuses r r' a.0 c.0) ∙ ap (λ (l : List ℕ). run r' l) (list_or_none_one g.breaks b b' a.1 c.1)
 
 pub form_one : (words : List Text) (form other : FormView) → IsForm words form → IsForm words other → form ≡ other

@@ -1,7 +1,10 @@
 -- The command that `clap` is given.
-use Rattle.std.specs.Prelude.{true, Some, codes}
+use Rattle.std.specs.Prelude.{true, Some, codes, fold}
 use Rattle.clap.specs.Walk.{Rule}
 use Rattle.clap.specs.Simple.{App, Shape, new_app, new_rule, with_rule, with_subcommand, on_top}
+use Rattle.command_words.specs.Forms.{Text, name_of}
+use Rattle.command_words.specs.declared.form.TheConstants.{ALL_WORDLESS}
+use Rattle.command_words.specs.declared.form.Wordless.{Wordless}
 
 abbrev pub refuse_rule : Rule
 refuse_rule = record (new_rule (codes "refuse")) { long = Some (codes "refuse") }
@@ -21,6 +24,21 @@ plain_shape s = record s {
   subcommand_required = true;
 }
 
+-- up to 4 words after the name
+abbrev pub words_rule : Rule
+words_rule = record (new_rule (codes "words")) { range = Some (record { start_inclusive = 0; end_inclusive = 4 }) }
+
+-- a subcommand of this name, whose words are handed on as they are
+abbrev pub named_app : Text → App
+named_app name = with_rule (new_app name) words_rule
+
+abbrev pub with_wordless : App → Wordless → App
+with_wordless app form = with_subcommand app (named_app (name_of form)).top
+
+-- the command with `run` alone
+abbrev pub first_app : App
+first_app = with_subcommand (on_top plain_shape (new_app (codes "netd_run"))) run_app.top
+
 -- the whole command
 abbrev pub netd_app : App
-netd_app = with_subcommand (on_top plain_shape (new_app (codes "netd_run"))) run_app.top
+netd_app = fold with_wordless first_app ALL_WORDLESS

@@ -3,6 +3,8 @@ use Rattle.std.specs.Prelude.{◌≡◌, ℕ, ◌<◌, ◌≤◌, ◌⊎◌, Lis
 use Rattle.std.specs.Fmt.{decimal}
 use Rattle.std.specs.List.{join_with_byte}
 use Rattle.std.specs.List.Sorted.{IsStrictlyIncreasing}
+use Rattle.command_words.specs.declared.form.Wordless.{Wordless}
+use Rattle.command_words.specs.declared.form.Wordless.TheVariants.{Check}
 
 -- a word, by its bytes
 abbrev pub Text : Type 0
@@ -39,10 +41,16 @@ pub record IsRun (words : List Text) (refuse breaks : List ℕ) : Type 0 where
   pub options : (MayGiveOption (codes "refuse") first refuse × MayGiveOption (codes "break") second breaks)
       ⊎ (MayGiveOption (codes "break") first breaks × MayGiveOption (codes "refuse") second refuse)
 
+-- the only word of a form that has no others
+abbrev pub name_of : Wordless → Text
+name_of Check = codes "check"
+
 -- what a form says
 pub data FormView : Type 0 where
   run : List ℕ → List ℕ → FormView
+  wordless : Wordless → FormView
 
 -- the words have this form
 abbrev pub IsForm : List Text → FormView → Type 0
 IsForm words (run refuse breaks) = IsRun words refuse breaks
+IsForm words (wordless form) = words ≡ name_of form ∷ []

@@ -1,8 +1,10 @@
 -- What the code makes of the matches.
-use Rattle.std.specs.Prelude.{◌≡◌, ℕ, List, [], Option, Some, None, codes, if◌then◌else◌}
+use Rattle.std.specs.Prelude.{◌≡◌, ℕ, List, [], Option, Some, None, codes, find, if◌then◌else◌, unwrap_or}
 use Rattle.std.specs.Str.{bytes_eq}
-use Rattle.clap.specs.Walk.{Row, first_of}
-use Rattle.command_words.specs.Forms.{Text, IsList, FormView, run}
+use Rattle.clap.specs.Walk.{Row, all_of, first_of}
+use Rattle.command_words.specs.declared.form.TheConstants.{ALL_WORDLESS}
+use Rattle.command_words.specs.declared.form.Wordless.{Wordless}
+use Rattle.command_words.specs.Forms.{Text, IsList, FormView, name_of, run, wordless}
 
 -- the texts that were given for the options of `run`
 pub record Given : Type 0 where
@@ -17,15 +19,40 @@ IsListOrNone (Some text) numbers = IsList text numbers
 -- the form that these texts say
 abbrev pub Says : Given → FormView → Type 0
 Says given (run refuse breaks) = IsListOrNone given.refuses refuse × IsListOrNone given.breaks breaks
+Says given (wordless form) = ⊥
 
-abbrev pub SaysSome : Option Given → FormView → Type 0
+-- what the words give: the options of `run`, or a form's word alone
+pub data Reading : Type 0 where
+  options : Given → Reading
+  alone : Wordless → Reading
+
+abbrev pub SaysReading : Reading → FormView → Type 0
+SaysReading (options given) form = Says given form
+SaysReading (alone only) form = form ≡ wordless only
+
+abbrev pub SaysSome : Option Reading → FormView → Type 0
 SaysSome None form = ⊥
-SaysSome (Some given) form = Says given form
+SaysSome (Some reading) form = SaysReading reading form
+
+-- the form with this word alone
+abbrev pub wordless_named : Text → Option Wordless
+wordless_named name = find (λ form. bytes_eq (name_of form) name) ALL_WORDLESS
 
 abbrev pub given_in : List Row → Given
 given_in rows = record { refuses = first_of (codes "refuse") rows; breaks = first_of (codes "break") rows }
 
+-- what is given by the words after a form's name, where it has no others
+abbrev pub alone_given : Option Wordless → List Text → Option Reading
+alone_given (Some form) [] = Some (alone form)
+alone_given _ _ = None
+
+-- the words after a subcommand's name
+abbrev pub words_in : List Row → List Text
+words_in rows = unwrap_or (all_of (codes "words") rows) []
+
 -- what was given to the subcommand that was found
-abbrev pub read_found : Option (Text × List Row) → Option Given
+abbrev pub read_found : Option (Text × List Row) → Option Reading
 read_found None = None
-read_found (Some found) = if bytes_eq found.0 (codes "run") then Some (given_in found.1) else None
+read_found (Some found) =
+    if bytes_eq found.0 (codes "run") then Some (options (given_in found.1))
+    else alone_given (wordless_named found.0) (words_in found.1)

@@ -12,7 +12,7 @@ mod refused;
 mod usage_text;
 
 pub use fault::WordsFault;
-pub use form::Form;
+pub use form::{Form, Wordless};
 pub use laws::one_form;
 pub use read::read_words;
 pub use usage_text::usage;

@@ -4,11 +4,11 @@ ghost use Rattle.clap.specs.Matches.{found_of};
 ghost use Rattle.clap.specs.Walk.{rows_of};
 ghost use Rattle.clap.specs.Simple.{subcommand_rows_of};
 ghost use Rattle.command_words.specs.Forms.{FormView};
-ghost use Rattle.command_words.specs.Read.{Says, SaysSome, given_in, read_found};
+ghost use Rattle.command_words.specs.Read.{Says, SaysSome, alone_given, given_in, read_found, wordless_named, words_in};
 ghost use Rattle.command_words.specs.View.{view_of};
 
 use crate::fault::WordsFault;
-use crate::form::Form;
+use crate::form::{ALL_WORDLESS, Form, Wordless};
 use crate::list::read_list_or_none;
 use clap::ArgMatches;
 use std::alloc::Global;
@@ -35,6 +35,35 @@ fn run_in(alloc: Global, inner: &ArgMatches) -> Result<Form, WordsFault>
     run_by(alloc, inner.get_str("refuse"), inner.get_str("break"))
 }
 
+/// The form with this word alone.
+fn wordless_named(name: &str) -> Option<Wordless>
+    ensures { result ≡ wordless_named name.now }
+{
+    ALL_WORDLESS
+        .iter()
+        .copied()
+        .find(|form| form.name() == name)
+}
+
+/// The form, where no words follow its name.
+fn form_alone(form: Wordless, inner: &ArgMatches) -> Result<Form, WordsFault>
+    ensures ok { IfOk result (λ said. SaysSome
+        (alone_given (Some form) (words_in (rows_of (found_of inner.now)))) (view_of said)) }
+    ensures no_form { result ≡ Err WordsFault.NoForm → (said : FormView) → SaysSome
+        (alone_given (Some form) (words_in (rows_of (found_of inner.now)))) said → ⊥ }
+{
+    match inner.get_strs("words") {
+        None => Ok(Form::Wordless(form)),
+        Some(words) => {
+            if words.is_empty() {
+                Ok(Form::Wordless(form))
+            } else {
+                Err(WordsFault::NoForm)
+            }
+        }
+    }
+}
+
 /// The form that the matches say.
 pub fn form_in(alloc: Global, matches: &ArgMatches) -> Result<Form, WordsFault>
     ensures ok { IfOk result (λ form. SaysSome (read_found (subcommand_rows_of matches.now))
@@ -46,9 +75,11 @@ pub fn form_in(alloc: Global, matches: &ArgMatches) -> Result<Form, WordsFault>
         None => Err(WordsFault::NoForm),
         Some((name, inner)) => {
             if name == "run" {
-                run_in(alloc, inner)
-            } else {
-                Err(WordsFault::NoForm)
+                return run_in(alloc, inner);
+            }
+            match wordless_named(name) {
+                None => Err(WordsFault::NoForm),
+                Some(form) => form_alone(form, inner),
             }
         }
     }

@@ -25,7 +25,8 @@ use Rattle.netd_session.proofs.Tellings.{stopped}
 use Rattle.netd_session.specs.Answers.{IsAnsweredLine}
 use Rattle.netd_session.specs.Causes.{ComesWhere, HasBadLine, HasCauses, InGrammar, IsCausedSession, NothingFailed, RefusedStart, StandsThen, ToldInPart}
 use Rattle.netd_session.specs.EndedView.{EndedView}
-use Rattle.netd_session.specs.Ends.{AtInput, AtLine, AtStart, EndsInput, FailsToStart, HasBegun, HasEnded, HasRun, StopsWhere, at_input, at_line, at_start, before_line, not_begun, read_failed, read_whole, start_halted, start_refused as refused_at, too_long as input_too_long}
+use Rattle.netd_session.specs.Ends.{AtInput, AtLine, AtStart, FailsToStart, HasBegun, HasEnded, HasRun, at_input, at_line, at_start, before_line, not_begun, start_halted, start_refused as refused_at}
+use Rattle.netd_session.specs.Passes.{EndsInput, StopsWhere, read_failed, read_whole, too_long as input_too_long}
 use Rattle.netd_session.specs.Lines.{Goes, IsSaid, Ran, halt, no_line, one_more, says_answer, says_bad}
 use Rattle.netd_session.specs.Stops.{End, goes_on, status_of}
 use Rattle.netd_session.specs.Telling.{IsTaken, no_memory, sink_failed, taken_whole}
@@ -126,14 +127,14 @@ began_unbroken : (before : KernelView) (begun : Standing) → HasBegun before be
 began_unbroken before begun began = ((has_start_cause (Ok begun.controller) before begun.kernel began.started).started refl).1
 
 module _ (old new : World) (lines : List (List ℕ)) where
-  abbrev AllInGrammar : Type 0
+  abbrev pub AllInGrammar : Type 0
   AllInGrammar = (text : List ℕ) → Contains lines text → InGrammar text
 
-  abbrev NotRefused : Type 0
+  abbrev pub NotRefused : Type 0
   NotRefused = RefusedStart old.kernel new.kernel → ⊥
 
   -- what is known at each end
-  abbrev Known : End → Type 0
+  abbrev pub Known : End → Type 0
   Known (Ok u) = (new.source.ended ≡ true) × AllInGrammar × BrokeNone old.kernel new.kernel × NotRefused
   Known (Err stop.BadLine) = HasBadLine lines × BrokeNone old.kernel new.kernel × NotRefused
   Known (Err stop.ReadFault) = AllInGrammar × BrokeNone old.kernel new.kernel × NotRefused
@@ -213,7 +214,7 @@ never_bad_words (Ok u) is = absurd cc
 never_bad_words (Err s) is = absurd cc
 
 -- all causes, by what is known
-has_causes : (old new : World) (given : List ℕ) (lines : List (List ℕ)) (e : End) → Known old new lines e
+pub has_causes : (old new : World) (given : List ℕ) (lines : List (List ℕ)) (e : End) → Known old new lines e
     → StopsWhere e stop.TooLong (length given ≡ input_limit + 1) (length given ≤ input_limit) → (new.source.ended ≡ true → IsAtEnd new.source.left)
     → StopsWhere e stop.ReadFault (old.source.faults < new.source.faults) (new.source.faults ≡ old.source.faults)
     → StopsWhere e stop.WriteFault (old.sink.faults < new.sink.faults) (new.sink.faults ≡ old.sink.faults) → HasCauses old new (status_of e) given lines

@@ -42,6 +42,7 @@ use Rattle.script_reader.specs.declared.line.TraceLine.TheVariants as trace
 use Rattle.turn_text.specs.declared.answer.Answer.{Answer}
 use Rattle.turn_text.specs.declared.answer.Answer.TheVariants as answer
 use Rattle.netd_session.proofs.Growing.{packet_stays, show_stays}
+use Rattle.netd_session.proofs.SessionPass.{said_ends}
 use Rattle.netd_session.proofs.Tellings.{not_with_input}
 use Rattle.netd_session.specs.Answers.{IsAnsweredLine, IsCommanded}
 use Rattle.netd_session.specs.EndedView.{EndedView}
@@ -448,8 +449,8 @@ session_history old new ended means none s = by s.ending
         same_kernel at.stands.kernel at.kernel_is
         (all_told (status_of ended.result) ended.turns r.answered (r.unanswered ++ at.behind) s.lines at.stands (at.cut ∙ sym (append_assoc at.before (at.text ∷ []) at.behind)
         ∙ ap (λ (l : List (List ℕ)). l ++ at.behind) r.cut ∙ append_assoc r.answered r.unanswered at.behind)
-        (not_ended ended.result (not_with_input at.text (length at.before + 1) at.stood at.stands at.more at.last at.whole ended.result at.taken (length at.last)
-        old.sink.faults new.sink.faults at.said at.told at.stops))
+        (not_ended ended.result (not_with_input at.whole ended.result at.taken (length at.last) old.sink.faults new.sink.faults
+        (said_ends at.text (length at.before + 1) at.stood at.stands at.more at.last at.whole at.said) at.told at.stops))
         (subst (λ (ts : List Turn). Told r.answered ts at.stands) (sym at.turns_are) r.told))
     by (before_line at) =
         same_kernel at.stands.kernel at.kernel_is

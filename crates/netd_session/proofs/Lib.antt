@@ -3,6 +3,8 @@ pub mod Growing
 pub mod Keeping
 pub mod Taking
 pub mod Starting
-pub mod Ending
+pub mod Passing
+pub mod SessionPass
 pub mod Causing
+pub mod Checking
 pub mod Histories

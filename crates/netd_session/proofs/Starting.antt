@@ -1,14 +1,13 @@
 -- How a session begins, and how it ends where the start fails.
-use Rattle.std.proofs.Common.{◌≡◌, ◌≢◌, ◌∙◌, ℕ, true, false, List, [], length, take, None, Err, inr, refl, sym, subst, arith}
+use Rattle.std.proofs.Common.{◌≡◌, ◌≢◌, ◌∙◌, ℕ, true, false, List, [], length, take, Err, inr, refl, sym, subst, arith}
 use Rattle.std.proofs.KnownBytes.{Appends-nil, Consumes-nil}
 use Rattle.std.proofs.lemmas.Bool.{false≢true}
 use Rattle.std.specs.Io.KnownBytes.{IsAtEnd}
 use Rattle.kernel_model.specs.View.{KernelView}
 use Rattle.line_input.proofs.MetLines.{all_met}
 use Rattle.line_input.specs.Lines.{AreMet}
-use Rattle.net_control.specs.Moments.{KeepsPolicy, SendsByPolicy}
+use Rattle.net_control.specs.Moments.{KeepsPolicy}
 use Rattle.net_control.specs.Started.{IsStarted}
-use Rattle.net_control.specs.View.{ControllerView, IsKept}
 use Rattle.net_control.specs.declared.controller.StartFault.{StartFault}
 use Rattle.net_control.specs.declared.controller.StartFault.TheVariants as fault
 use Rattle.net_io.specs.Streams.{SinkView}
@@ -17,11 +16,8 @@ use Rattle.turn_text.specs.Texts.{start_halted_text, start_refused_text}
 use Rattle.netd_session.proofs.Tellings.{write_fault_of}
 use Rattle.netd_session.specs.EndedView.{EndedView}
 use Rattle.netd_session.specs.Ends.{FailsToStart, IsSession, TellsStart, at_start, not_begun, start_halted, start_refused}
-use Rattle.netd_session.specs.Lines.{no_line}
-use Rattle.netd_session.specs.Progress.{HasCome}
 use Rattle.netd_session.specs.Stops.{End}
 use Rattle.netd_session.specs.Telling.{IsTaken, Tells, no_memory, sink_failed, taken_whole}
-use Rattle.netd_session.specs.Turns.{standing}
 use Rattle.netd_session.specs.World.{World}
 use Rattle.netd_session.specs.declared.end.Stop.{Stop}
 use Rattle.netd_session.specs.declared.end.Stop.TheVariants as stop
@@ -34,32 +30,6 @@ none_met w = all_met w.source.ended [] [] [] (record { bytes = refl; each = tt }
 -- a source that has not ended
 nothing_ended : (w : World) → w.source.ended ≡ false → w.source.ended ≡ true → IsAtEnd w.source.left
 nothing_ended w not_ended ended = absurd (false≢true (sym not_ended ∙ ended))
-
--- before the first line
-pub at_first : (w : World) (controller : ControllerView) (turns : List Turn) (count : ℕ) (held : List ℕ) → count ≡ 0 → held ≡ [] → turns ≡ []
-    → controller.halted ≡ None → IsKept controller w.kernel → SendsByPolicy controller w.kernel → HasCome (standing controller w.kernel) w w controller turns count held 0
-at_first w controller turns count held none_given none_held no_turn running kept sends =
-    subst (λ (t : List Turn). HasCome (standing controller w.kernel) w w controller t count held 0) (sym no_turn)
-    (subst (λ (b : List ℕ). HasCome (standing controller w.kernel) w w controller [] count b 0) (sym none_held)
-    (subst (λ (n : ℕ). HasCome (standing controller w.kernel) w w controller [] n [] 0) (sym none_given)
-    record {
-      given = [];
-      read = Consumes-nil w.source.left;
-      counted = refl;
-      within = omega arith;
-      lines = [];
-      numbered = refl;
-      cut = record { bytes = refl; each = tt };
-      few = omega arith;
-      out = [];
-      written = Appends-nil w.sink.bytes;
-      run = no_line;
-      running = running;
-      kept = kept;
-      sends = sends;
-      no_read_fault = refl;
-      no_write_fault = refl;
-    }))
 
 -- the same end
 pub with_end : {old new : World} {ended same : EndedView} → ended ≡ same → IsSession old new same → IsSession old new ended

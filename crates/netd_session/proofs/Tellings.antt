@@ -1,19 +1,16 @@
 -- What is known of a text that was told, and how the session ends then.
-use Rattle.std.proofs.Common.{◌≡◌, ◌≢◌, ◌∙◌, ℕ, ◌<◌, false, List, length, take, Option, None, Some, Result, Ok, Err, inl, inr, refl, ap, subst, arith}
+use Rattle.std.proofs.Common.{◌≡◌, ◌≢◌, ◌∙◌, ◌⊎◌, ℕ, ◌<◌, false, List, length, take, Result, Ok, Err, inl, inr, refl, ap, subst, arith}
 use Rattle.std.proofs.KnownBytes.{Appends-kept}
 use Rattle.std.specs.Io.KnownBytes.{Appends, Keeps}
 use Rattle.std.specs.Prelude.{IsErrAnd, alloc_error}
 use Rattle.net_io.specs.Streams.{SinkView}
 use Rattle.net_io.specs.declared.streams.WriteFault.{WriteFault}
 use Rattle.net_io.specs.declared.streams.WriteFault.TheVariants as write
-use Rattle.netd_session.specs.Ends.{StopsWhere}
-use Rattle.netd_session.specs.Lines.{IsSaid, halt, says_answer, says_bad}
+use Rattle.netd_session.specs.Passes.{StopsWhere}
 use Rattle.netd_session.specs.Stops.{End, after_write, ends_with_input, goes_on, status_of}
 use Rattle.netd_session.specs.Telling.{IsTaken, Tells, no_memory, sink_failed, taken_whole}
-use Rattle.netd_session.specs.Turns.{Standing}
 use Rattle.netd_session.specs.declared.end.Stop.{Stop}
 use Rattle.netd_session.specs.declared.end.Stop.TheVariants as stop
-use Rattle.netd_session.specs.declared.turn.Turn.{Turn}
 
 -- a session that stopped so
 abbrev pub stopped : Stop → End
@@ -83,25 +80,20 @@ write_fault_of whole result taken all old new other (no_memory is few kept) = in
     apart : result ≡ Err stop.Memory → result ≡ Err stop.WriteFault → ⊥
     apart a b = absurd cc
 
--- what is said of a line is no fault of the sink
-pub said_unfailed : (text : List ℕ) (n : ℕ) (s e : Standing) (turns : List Turn) (out : List ℕ) (whole : End)
-    → IsSaid text n s e turns out whole → whole ≢ Err stop.WriteFault
-said_unfailed text n s e turns out whole (says_bad bad is) same = absurd cc
-said_unfailed text n s e turns out whole (says_answer goes is) same = by e.controller.halted is
-  where
-    by : (h : Option ℕ) → whole ≡ halt h → ⊥
-    by None is = absurd cc
-    by (Some request) is = absurd cc
+-- what is said of a line goes on, or ends as a bad line or a broken deletion does
+abbrev pub EndsLine : End → Type 0
+EndsLine whole = (whole ≡ goes_on) ⊎ ((whole ≡ Err stop.BadLine) ⊎ (whole ≡ Err stop.Halted))
 
--- a line that ends the session does not end it as the input does
-pub not_with_input : (text : List ℕ) (n : ℕ) (s e : Standing) (turns : List Turn) (out : List ℕ) (whole result : End) (taken all old new : ℕ)
-    → IsSaid text n s e turns out whole → IsTaken whole result taken all old new → result ≢ goes_on → ends_with_input (status_of result) ≡ false
-not_with_input text n s e turns out whole result taken all old new said (sink_failed is few more) stops = ap (λ (r : End). ends_with_input (status_of r)) is
-not_with_input text n s e turns out whole result taken all old new said (no_memory is few kept) stops = ap (λ (r : End). ends_with_input (status_of r)) is
-not_with_input text n s e turns out whole result taken all old new (says_bad bad same) (taken_whole is full kept) stops =
-    ap (λ (r : End). ends_with_input (status_of r)) (is ∙ same)
-not_with_input text n s e turns out whole result taken all old new (says_answer goes same) (taken_whole is full kept) stops = by e.controller.halted (is ∙ same)
-  where
-    by : (h : Option ℕ) → result ≡ halt h → ends_with_input (status_of result) ≡ false
-    by None on = absurd (stops on)
-    by (Some request) halted = ap (λ (r : End). ends_with_input (status_of r)) halted
+-- that is no fault of the sink
+pub line_unfailed : (whole : End) → EndsLine whole → whole ≢ Err stop.WriteFault
+line_unfailed whole (inl is) same = absurd cc
+line_unfailed whole (inr (inl is)) same = absurd cc
+line_unfailed whole (inr (inr is)) same = absurd cc
+
+-- a line that ends it does not end it as the input does
+pub not_with_input : (whole result : End) (taken all old new : ℕ) → EndsLine whole → IsTaken whole result taken all old new → result ≢ goes_on → ends_with_input (status_of result) ≡ false
+not_with_input whole result taken all old new ends (sink_failed is few more) stops = ap (λ (r : End). ends_with_input (status_of r)) is
+not_with_input whole result taken all old new ends (no_memory is few kept) stops = ap (λ (r : End). ends_with_input (status_of r)) is
+not_with_input whole result taken all old new (inl goes) (taken_whole is full kept) stops = absurd (stops (is ∙ goes))
+not_with_input whole result taken all old new (inr (inl bad)) (taken_whole is full kept) stops = ap (λ (r : End). ends_with_input (status_of r)) (is ∙ bad)
+not_with_input whole result taken all old new (inr (inr halts)) (taken_whole is full kept) stops = ap (λ (r : End). ends_with_input (status_of r)) (is ∙ halts)

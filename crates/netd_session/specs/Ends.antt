@@ -1,5 +1,5 @@
 -- What a session did, by how it ended.
-use Rattle.std.specs.Prelude.{◌≡◌, ◌≢◌, ◌⊎◌, ℕ, ◌+◌, ◌<◌, ◌≤◌, Bool, true, List, [], ◌∷◌, ◌++◌, length, take, None, Ok, Err}
+use Rattle.std.specs.Prelude.{◌≡◌, ◌≢◌, ℕ, ◌+◌, ◌<◌, ◌≤◌, true, List, [], ◌∷◌, ◌++◌, length, take, None, Ok, Err}
 use Rattle.std.specs.Io.KnownBytes.{Appends, Consumes, IsAtEnd}
 use Rattle.kernel_model.specs.View.{KernelView}
 use Rattle.line_input.specs.Lines.{AreMet, input_limit}
@@ -12,11 +12,11 @@ use Rattle.policy_state.specs.View.{start}
 use Rattle.turn_text.specs.Texts.{start_halted_text, start_refused_text}
 use Rattle.netd_session.specs.EndedView.{EndedView}
 use Rattle.netd_session.specs.Lines.{IsSaid, Ran}
+use Rattle.netd_session.specs.Passes.{EndsInput, StopsWhere}
 use Rattle.netd_session.specs.Stops.{End, goes_on}
 use Rattle.netd_session.specs.Telling.{IsTaken, Tells}
 use Rattle.netd_session.specs.Turns.{Standing}
 use Rattle.netd_session.specs.World.{World}
-use Rattle.netd_session.specs.declared.end.Stop.{Stop}
 use Rattle.netd_session.specs.declared.end.Stop.TheVariants as stop
 use Rattle.netd_session.specs.declared.turn.Turn.{Turn}
 
@@ -110,15 +110,6 @@ pub record BeforeLine (old new : World) (ended : EndedView) (lines : List (List 
   pub run : HasRun old before stands ended.turns out
   pub kernel_is : new.kernel ≡ stands.kernel
 
--- what ended the input: it was read to its end, a read failed, or there was a byte more than an input may have
-pub data EndsInput (result : End) (ended : Bool) (count : ℕ) (old new : ℕ) : Type 0 where
-  read_whole : result ≡ goes_on → ended ≡ true → count ≤ input_limit → new ≡ old
-      → EndsInput result ended count old new
-  read_failed : result ≡ Err stop.ReadFault → count ≤ input_limit → old < new
-      → EndsInput result ended count old new
-  too_long : result ≡ Err stop.TooLong → count ≡ input_limit + 1 → new ≡ old
-      → EndsInput result ended count old new
-
 -- it ended with the input, with every line that was met answered
 pub record AtInput (old new : World) (ended : EndedView) (given : List ℕ)
     (lines : List (List ℕ)) (out : List ℕ) : Type 0 where
@@ -136,10 +127,6 @@ pub data HasEnded (old new : World) (ended : EndedView) (given : List ℕ) (line
   at_line : AtLine old new ended lines out → HasEnded old new ended given lines out
   before_line : BeforeLine old new ended lines out → HasEnded old new ended given lines out
   at_input : AtInput old new ended given lines out → HasEnded old new ended given lines out
-
--- the session stopped so, and the one holds; or it didn't, and the other holds
-abbrev pub StopsWhere : End → Stop → (there other : Type 0) → Type 0
-StopsWhere result s there other = ((result ≡ Err s) × there) ⊎ ((result ≢ Err s) × other)
 
 -- What a session did: the source gave some bytes, in which some lines were met, and the sink took some text.
 pub record IsSession (old new : World) (ended : EndedView) : Type 0 where

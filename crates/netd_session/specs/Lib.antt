@@ -2,10 +2,12 @@ pub mod World
 pub mod Stops
 pub mod EndedView
 pub mod Telling
+pub mod Passes
 pub mod Turns
 pub mod Answers
 pub mod Lines
 pub mod Ends
 pub mod Progress
 pub mod Causes
+pub mod Checks
 pub mod History

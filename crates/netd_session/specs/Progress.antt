@@ -1,18 +1,14 @@
--- How far a session has come, each time that it looks for a line.
-use Rattle.std.specs.Prelude.{◌≡◌, ℕ, ◌+◌, ◌≤◌, List, length, None}
+-- How far one has come over the lines, each time that a line is looked for.
+use Rattle.std.specs.Prelude.{◌≡◌, ℕ, ◌+◌, ◌≤◌, List, length}
 use Rattle.std.specs.Io.KnownBytes.{Appends, Consumes}
 use Rattle.line_input.specs.Cut.{AreFed}
 use Rattle.line_input.specs.Lines.{input_limit}
-use Rattle.net_control.specs.Moments.{SendsByPolicy}
-use Rattle.net_control.specs.View.{ControllerView, IsKept}
-use Rattle.netd_session.specs.Lines.{Ran}
-use Rattle.netd_session.specs.Turns.{Standing, standing}
-use Rattle.netd_session.specs.World.{World}
-use Rattle.netd_session.specs.declared.turn.Turn.{Turn}
+use Rattle.netd_session.specs.Passes.{Pass, Passed}
+use Rattle.netd_session.specs.World.{Streams}
 
--- from how it began the lines so far are answered, and these bytes are held after them
-pub record HasCome (begun : Standing) (old new : World) (controller : ControllerView)
-    (turns : List Turn) (count : ℕ) (held : List ℕ) (number : ℕ) : Type 0 where
+-- from how it began the lines so far are told, and these bytes are held after them
+pub record HasCome (p : Pass) (begun stands : p.Stand) (old new : Streams) (count : ℕ) (held : List ℕ)
+    (number : ℕ) : Type 0 where
   pub given : List ℕ
   pub read : Consumes old.source.left new.source.left given
   pub counted : count ≡ length given
@@ -23,9 +19,6 @@ pub record HasCome (begun : Standing) (old new : World) (controller : Controller
   pub few : number + length held ≤ count
   pub out : List ℕ
   pub written : Appends old.sink.bytes new.sink.bytes out
-  pub run : Ran begun lines (standing controller new.kernel) turns out
-  pub running : controller.halted ≡ None
-  pub kept : IsKept controller new.kernel
-  pub sends : SendsByPolicy controller new.kernel
+  pub passed : Passed p begun lines stands out
   pub no_read_fault : new.source.faults ≡ old.source.faults
   pub no_write_fault : new.sink.faults ≡ old.sink.faults

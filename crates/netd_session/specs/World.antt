@@ -11,6 +11,17 @@ pub record World : Type 0 where
 abbrev pub world : SourceView → SinkView → KernelView → World
 world source sink kernel = record { source = source; sink = sink; kernel = kernel }
 
+-- the source and the sink alone
+pub record Streams : Type 0 where
+  pub source : SourceView
+  pub sink : SinkView
+
+abbrev pub streams : SourceView → SinkView → Streams
+streams source sink = record { source = source; sink = sink }
+
+abbrev pub streams_of : World → Streams
+streams_of w = streams w.source w.sink
+
 -- A session may begin: the kernel was asked nothing, a fault more of the source and of the sink can be counted, and the
 -- source hasn't ended.
 pub record MayBegin (w : World) : Type 0 where

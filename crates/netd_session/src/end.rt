@@ -86,6 +86,16 @@ pub enum Status {
 }
 
 impl Status {
+    /// The status after such an end.
+    pub fn of(end: Result<(), Stop>) -> Status
+        ensures { result ≡ status_of end }
+    {
+        match end {
+            Ok(()) => Status::Finished,
+            Err(stop) => Status::Stopped(stop),
+        }
+    }
+
     /// The exit status of the program.
     pub fn number(&self) -> u8
         ensures { result ≡ number_of self.now }
@@ -123,10 +133,7 @@ impl Ended {
     pub fn status(&self) -> Status
         ensures { result ≡ status_of self.now.result }
     {
-        match &self.end {
-            Ok(()) => Status::Finished,
-            Err(stop) => Status::Stopped(*stop),
-        }
+        Status::of(self.end)
     }
 
     /// How many turns there were.

@@ -1,11 +1,10 @@
 ghost use Rattle.std.specs.Prelude.{◌≡◌, ◌++◌, ◌∷◌, ◌<◌, [], None, vec_len, vec_capacity};
 ghost use Rattle.net_io.specs.Streams.{CanCount};
-ghost use Rattle.turn_text.specs.Texts.{numbered};
 ghost use Rattle.net_control.specs.Moments.{SendsByPolicy};
 ghost use Rattle.net_control.specs.View.{IsKept};
 
 use crate::end::Stop;
-use crate::output::offer;
+use crate::output::{offer, tell_bad_line};
 use crate::turn::{Said, Turn};
 use kernel_model::Kernel;
 use net_control::Controller;
@@ -13,7 +12,7 @@ use net_io::Sink;
 use policy_state::Command;
 use script_reader::{Line, LineFault, TraceLine, read_line};
 use std::alloc::{AllocError, Global};
-use turn_text::{put_answer, write_bad_line};
+use turn_text::put_answer;
 
 /// Room for the answer to any command.
 const ANSWER_ROOM: usize = 80;
@@ -37,11 +36,9 @@ pub struct Talk {
 
 impl Talk {
     ghost use Rattle.script_reader.specs.declared.line.Line.TheVariants as line;
-    ghost use Rattle.turn_text.specs.Texts.{bad_text};
     ghost use Rattle.netd_session.specs.Lines.{Answers, Takes, halt_of};
-    ghost use Rattle.netd_session.specs.Telling.{MakesAndTells, Tells};
+    ghost use Rattle.netd_session.specs.Telling.{Tells};
     ghost use Rattle.netd_session.specs.Turns.{standing};
-    ghost use Rattle.netd_session.specs.declared.end.Stop.TheVariants as stop;
 
     /// A session that has begun.
     pub fn new(alloc: Global, controller: Controller, answer: Vec<u8>) -> Talk
@@ -139,20 +136,6 @@ impl Talk {
         }
     }
 
-    // Tells that a line is bad, which is the end.
-    fn tell_bad_line<W: Sink>(&mut self, number: u32, column: u32, sink: &mut W) -> Result<(), Stop>
-        requires count { CanCount (W.seen sink.old).faults }
-        requires empty { self.old.answer.items ≡ [] }
-        ensures told { MakesAndTells (numbered number (bad_text column)) (Err stop.BadLine) result
-            (W.seen sink.old) (W.seen sink.new) }
-        ensures turns { self.new.turns.items ≡ self.old.turns.items }
-        ensures controller { self.new.controller ≡ self.old.controller }
-    {
-        write_bad_line(number, column, &mut self.answer)?;
-        offer(sink, &self.answer)?;
-        Err(Stop::BadLine)
-    }
-
     /// Answers one line. An error is how the session ends there.
     pub fn take_line<W: Sink, K: Kernel>(
         &mut self,
@@ -176,7 +159,9 @@ impl Talk {
         self.answer.clear();
         match read_line(self.alloc, text) {
             Err(LineFault::Memory(_)) => Err(Stop::Memory),
-            Err(LineFault::Bad { column }) => self.tell_bad_line(number, column, sink),
+            Err(LineFault::Bad { column }) => {
+                tell_bad_line(number, column, &mut self.answer, sink)
+            }
             Ok(line) => {
                 self.answer_line(number, &line, kernel)?;
                 self.tell_answer(sink)

@@ -1,16 +1,18 @@
 -- Why the program ends as it does.
 use Rattle.std.proofs.Common.{◌≡◌, ◌∙◌, ◌⊎◌, ◌↔◌, ℕ, ◌<◌, List, [], length, inl, inr, sym, ap, subst, arith}
-use Rattle.command_words.specs.Forms.{FormView, IsForm, run}
-use Rattle.kernel_model.specs.View.{breaks_of}
+use Rattle.command_words.specs.Forms.{FormView, IsForm, run, wordless}
+use Rattle.command_words.specs.declared.form.Wordless.TheVariants.{Check}
+use Rattle.kernel_model.specs.View.{KernelView, breaks_of}
 use Rattle.netd_session.proofs.Causing.{caused_session}
+use Rattle.netd_session.proofs.Checking.{caused_check}
 use Rattle.netd_session.proofs.Keeping.{IsInOrder, nothing_asked, session_in_order}
 use Rattle.netd_session.specs.Stops.{End, goes_on}
 use Rattle.netd_session.specs.Telling.{IsTaken, no_memory, sink_failed, taken_whole}
-use Rattle.netd_session.specs.World.{World}
+use Rattle.netd_session.specs.World.{World, streams_of}
 use Rattle.netd_session.specs.declared.end.Status.{Status}
 use Rattle.netd_session.specs.declared.end.Status.TheVariants as status
 use Rattle.netd_session.specs.declared.end.Stop.TheVariants as stop
-use Rattle.netd_top.specs.Causes.{HaveNoForm, HasRunCauses, RanSession}
+use Rattle.netd_top.specs.Causes.{HaveNoForm, HasRunCauses, RanCheck, RanSession}
 use Rattle.netd_top.specs.Run.{DoesForm, DoesRun, TellsUsage, usage_status, usage_text, with_lists}
 
 -- words have one form
@@ -26,6 +28,7 @@ ran one words refuse breaks old new s is (ended, did, told) = record {
   write_fault = here.2.write_fault;
   halted = here.2.halted;
   session = λ other_refuse other_breaks other. inl (by_form other_refuse other_breaks (one words (run refuse breaks) (run other_refuse other_breaks) is other));
+  check = λ other. absurd (let same : run refuse breaks ≡ wordless Check = one words (run refuse breaks) (wordless Check) is other in cc);
 }
   where
     here : RanSession (with_lists old refuse breaks) new s
@@ -35,9 +38,27 @@ ran one words refuse breaks old new s is (ended, did, told) = record {
 
     by_lists : (f : FormView) → Type 0
     by_lists (run r b) = RanSession (with_lists old r b) new s
+    by_lists (wordless form) = Unit {0}
 
     by_form : (r b : List ℕ) → run refuse breaks ≡ run r b → RanSession (with_lists old r b) new s
     by_form r b same = let ran_here : RanSession (with_lists old refuse breaks) new s = here in subst by_lists same ran_here
+
+-- the word check, and the check that was made
+checked : OneForm → (words : List (List ℕ)) (old new : World) (s : Status) → IsForm words (wordless Check) → DoesForm (wordless Check) old new s → HasRunCauses words old new s
+checked one words old new s is (result, did, told, kept) = record {
+  bad_words = record { only = λ e. absurd (here.2.bad_words e); there = λ none. absurd (none (wordless Check) is) };
+  read_fault = here.2.read_fault;
+  write_fault = here.2.write_fault;
+  halted = here.2.halted;
+  session = λ refuse breaks other. absurd (let same : wordless Check ≡ run refuse breaks = one words (wordless Check) (run refuse breaks) is other in cc);
+  check = λ other. inl here;
+}
+  where
+    here : RanCheck old new s
+    here =
+        let both = caused_check (streams_of old) (streams_of new) result old.kernel did in
+        subst (λ (k : KernelView). RanCheck old (record new { kernel = k }) s) (sym kept)
+        (subst (λ (t : Status). RanCheck old (record new { kernel = old.kernel }) t) (sym told) (result, did, both.0, both.1))
 
 -- what telling the usage text says of the status
 record Tells (s : Status) (before after : ℕ) : Type 0 where
@@ -78,6 +99,7 @@ told words old new s none usage =
         there = λ broke. absurd (let same = ap (λ (w : World). breaks_of w.kernel) usage.rest in omega (arith, broke, same));
       };
       session = λ refuse breaks is. absurd (none (run refuse breaks) is);
+      check = λ is. absurd (none (wordless Check) is);
     }
 
 -- memory ran out for the words
@@ -91,15 +113,18 @@ without_memory words old new s is same = record {
     there = λ broke. absurd (let stays = ap (λ (w : World). breaks_of w.kernel) same in omega (arith, broke, stays));
   };
   session = λ refuse breaks form. inr (is, same);
+  check = λ form. inr (is, same);
 }
 
 pub run_causes : OneForm → (words : List (List ℕ)) (old new : World) (s : Status) → DoesRun words old new s → HasRunCauses words old new s
 run_causes one words old new s (inl (run refuse breaks, is, does)) = ran one words refuse breaks old new s is does
+run_causes one words old new s (inl (wordless Check, is, does)) = checked one words old new s is does
 run_causes one words old new s (inr (inl (none, usage))) = told words old new s none usage
 run_causes one words old new s (inr (inr (is, same))) = without_memory words old new s is same
 
 -- whatever the words and the status
 pub run_in_order : (words : List (List ℕ)) (old new : World) (s : Status) → DoesRun words old new s → old.kernel.journal ≡ [] → IsInOrder new.kernel
 run_in_order words old new s (inl (run refuse breaks, is, (ended, did, told))) none = session_in_order (with_lists old refuse breaks) new ended did none
+run_in_order words old new s (inl (wordless Check, is, (result, did, told, kept))) none = nothing_asked new.kernel (ap (λ (k : KernelView). k.journal) kept ∙ none)
 run_in_order words old new s (inr (inl (no_form, usage))) none = nothing_asked new.kernel (ap (λ (w : World). w.kernel.journal) usage.rest ∙ none)
 run_in_order words old new s (inr (inr (is, same))) none = nothing_asked new.kernel (ap (λ (w : World). w.kernel.journal) same ∙ none)

@@ -1,7 +1,7 @@
 -- Refusals and breaks fall where the two lists say.
 use Rattle.std.proofs.Common.{◌≡◌, ◌∙◌, ℕ, List, [], Option, inl, inr, sym, ap, subst}
 use Rattle.std.proofs.lemmas.Option.{none-some}
-use Rattle.command_words.specs.Forms.{FormView, run}
+use Rattle.command_words.specs.Forms.{FormView, run, wordless}
 use Rattle.kernel_model.specs.Journal.{Listed}
 use Rattle.kernel_model.specs.View.{IfListed, Lists}
 use Rattle.netd_session.proofs.Growing.{session_lists}
@@ -24,9 +24,12 @@ fails_where_listed one words old new s (inl (run r b, is, (ended, did, told))) n
 
     by_lists : (f : FormView) → Type 0
     by_lists (run x y) = Listed x y new.kernel.journal
+    by_lists (wordless other) = Unit {0}
 
     by_form : run r b ≡ run refuse breaks → Listed refuse breaks new.kernel.journal
     by_form same = let here : Listed r b new.kernel.journal = listed in subst by_lists same here
+fails_where_listed one words old new s (inl (wordless only, is, does)) none sound refuse breaks form =
+    absurd (let same : wordless only ≡ run refuse breaks = one words (wordless only) (run refuse breaks) is form in cc)
 fails_where_listed one words old new s (inr (inl (no_form, told))) none sound refuse breaks form = absurd (no_form (run refuse breaks) form)
 fails_where_listed one words old new s (inr (inr nothing_done)) none sound refuse breaks form =
     subst (Listed refuse breaks) (sym (ap (λ (w : World). w.kernel.journal) nothing_done.1 ∙ none)) (nothing_listed refuse breaks)

@@ -1,11 +1,14 @@
 -- Why the program ends as it does, exit status by exit status.
 use Rattle.std.specs.Prelude.{◌≡◌, ◌⊎◌, ◌↔◌, ℕ, ◌<◌, List}
-use Rattle.command_words.specs.Forms.{FormView, IsForm, run}
+use Rattle.command_words.specs.Forms.{FormView, IsForm, run, wordless}
+use Rattle.command_words.specs.declared.form.Wordless.TheVariants.{Check}
 use Rattle.net_control.specs.Causes.{BrokeSome}
 use Rattle.netd_session.specs.Causes.{ComesWhere, HasCauses, StandsThen}
+use Rattle.netd_session.specs.Checks.{IsCheck, IsWrittenThen}
 use Rattle.netd_session.specs.EndedView.{EndedView}
 use Rattle.netd_session.specs.Ends.{IsSession}
-use Rattle.netd_session.specs.World.{World}
+use Rattle.netd_session.specs.Stops.{End}
+use Rattle.netd_session.specs.World.{World, streams_of}
 use Rattle.netd_session.specs.declared.end.Status.{Status}
 use Rattle.netd_session.specs.declared.end.Status.TheVariants as status
 use Rattle.netd_session.specs.declared.end.Stop.TheVariants as stop
@@ -22,6 +25,13 @@ RanSession old new s =
     × HasCauses old new s did.given did.lines
     × StandsThen s old new ended did.given did.lines did.out
 
+-- A check was made; its status has its cause, and what is written is by the status.
+abbrev pub RanCheck : (old new : World) → Status → Type 0
+RanCheck old new s =
+    (result : End) × (did : IsCheck (streams_of old) (streams_of new) result)
+    × HasCauses old new s did.given did.lines
+    × IsWrittenThen s (streams_of old) (streams_of new) result did.lines did.out
+
 -- The causes of each exit status. Running out of memory has none.
 pub record HasRunCauses (words : List (List ℕ)) (old new : World) (s : Status) : Type 0 where
   -- 2: exactly where the words have no form
@@ -36,3 +46,6 @@ pub record HasRunCauses (words : List (List ℕ)) (old new : World) (s : Status)
   pub session : (refuse breaks : List ℕ) → IsForm words (run refuse breaks)
       → RanSession (with_lists old refuse breaks) new s
       ⊎ ((s ≡ status.Stopped stop.Memory) × (new ≡ old))
+  -- the same of a check, whose kernel was asked nothing
+  pub check : IsForm words (wordless Check)
+      → RanCheck old new s ⊎ ((s ≡ status.Stopped stop.Memory) × (new ≡ old))

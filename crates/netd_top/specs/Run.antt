@@ -1,13 +1,15 @@
 -- What the program does, by the form of its words.
 use Rattle.std.specs.Prelude.{◌≡◌, ◌⊎◌, ℕ, List, ◌∷◌, [], ◌++◌, codes, Some, Ok, Err}
-use Rattle.command_words.specs.Forms.{FormView, IsForm, run}
+use Rattle.command_words.specs.Forms.{FormView, IsForm, run, wordless}
+use Rattle.command_words.specs.declared.form.Wordless.TheVariants.{Check}
 use Rattle.kernel_model.specs.View.{KernelView}
 use Rattle.net_io.specs.Streams.{SinkView}
+use Rattle.netd_session.specs.Checks.{IsCheck}
 use Rattle.netd_session.specs.EndedView.{EndedView}
 use Rattle.netd_session.specs.Ends.{IsSession}
 use Rattle.netd_session.specs.Stops.{End, goes_on, status_of}
 use Rattle.netd_session.specs.Telling.{Tells}
-use Rattle.netd_session.specs.World.{World}
+use Rattle.netd_session.specs.World.{World, streams_of}
 use Rattle.netd_session.specs.declared.end.Status.{Status}
 use Rattle.netd_session.specs.declared.end.Status.TheVariants as status
 use Rattle.netd_session.specs.declared.end.Stop.TheVariants as stop
@@ -26,10 +28,15 @@ abbrev pub DoesForm : FormView → (old new : World) → Status → Type 0
 DoesForm (run refuse breaks) old new s =
     (ended : EndedView) × IsSession (with_lists old refuse breaks) new ended
     × (s ≡ status_of ended.result)
+-- `check`: the canonical lines of the source, up to a bad one; the kernel stays as it was
+DoesForm (wordless Check) old new s =
+    (result : End) × IsCheck (streams_of old) (streams_of new) result
+    × (s ≡ status_of result) × (new.kernel ≡ old.kernel)
 
 -- what is printed where the words have no form
 abbrev pub usage_text : List ℕ
-usage_text = codes "usage: netd_run run [--refuse LIST] [--break LIST]" ++ 10 ∷ []
+usage_text = codes "usage: netd_run run [--refuse LIST] [--break LIST]" ++ 10
+    ∷ codes "       netd_run check" ++ 10 ∷ []
 
 -- the status once the usage text was told, or a prefix of it
 abbrev pub usage_status : End → Status

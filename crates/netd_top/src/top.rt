@@ -8,10 +8,10 @@ ghost use Rattle.netd_top.specs.Causes.{HasRunCauses};
 ghost use Rattle.netd_top.specs.History.{FailsWhereListed, HasRunHistory};
 ghost use Rattle.netd_top.specs.Run.{DoesForm, DoesRun, TellsText};
 
-use command_words::{Form, WordsFault, one_form, read_words, usage};
+use command_words::{Form, Wordless, WordsFault, one_form, read_words, usage};
 use kernel_model::Armed;
 use net_io::{Sink, Source};
-use netd_session::{Status, Stop, offer, session};
+use netd_session::{Status, Stop, check, offer, session};
 use policy_meaning::own_rule_means_start;
 use std::alloc::Global;
 
@@ -46,6 +46,7 @@ fn carry_out<S: Source, W: Sink, K: Armed>(
             kernel.arm(refuse, breaks);
             session(alloc, source, sink, kernel).status()
         }
+        Form::Wordless(Wordless::Check) => Status::of(check(alloc, source, sink)),
     }
 }
 
@@ -72,7 +73,7 @@ fn obey<S: Source, W: Sink, K: Armed>(
 }
 
 /// Does what the words after the program's name say, and gives the exit status. `run` arms the kernel with the two lists
-/// and carries a script out on it; words of no form print the usage text.
+/// and carries a script out on it; `check` prints a script in canonical form; words of no form print the usage text.
 pub fn run<S: Source, W: Sink, K: Armed>(
     alloc: Global,
     words: &[String],

@@ -5,6 +5,7 @@ pub mod Fronts
 pub mod OneForm
 pub mod OneLine
 pub mod Farthest
+pub mod Neighbours
 pub mod LineOutcomes
 pub mod OneColumn
 pub mod Joined

@@ -7,7 +7,7 @@ use denote.Enum.Declared.{rowss, tag_of}
 use denote.Enum.Enum.{Sum, tag}
 use Rattle.script_reader.specs.contracts.form.Form.{the_type}
 use Rattle.script_reader.specs.declared.form.Form.{Form}
-use Rattle.script_reader.specs.declared.form.TheConstants.{FORMS}
+use Rattle.script_reader.specs.Rows.{forms}
 use Rattle.word_text.proofs.Tests.{both_true}
 
 abbrev pub place_of : Form → ℕ
@@ -39,7 +39,7 @@ at_number (form ∷ forms) from (suc place) all below =
 same_form : (one other : Form) → place_of one ≡ place_of other → one ≡ other
 same_form one other e = tag_one the_type tt one other e
 
-pub at_place : (form : Form) → slice_get FORMS (place_of form) ≡ Some form
+pub at_place : (form : Form) → slice_get forms (place_of form) ≡ Some form
 at_place form =
-    let found = at_number FORMS 0 (place_of form) refl (below_count the_type.parts (the_type.to form)) in
+    let found = at_number forms 0 (place_of form) refl (below_count the_type.parts (the_type.to form)) in
     found.1 ∙ ap Some (same_form found.0 form (omega (arith, found.2)))

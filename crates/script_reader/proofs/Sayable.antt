@@ -8,8 +8,7 @@ use Rattle.word_text.specs.Grammar.{Kind, Values, AreSpelled}
 use Rattle.script_reader.specs.Canonical.{AreWithin, IsSayable, IsWithinLine, canonical, text_of, values_text}
 use Rattle.script_reader.specs.Lines.{Says, Spells}
 use Rattle.script_reader.specs.Parts.{Parts, parts_of}
-use Rattle.script_reader.specs.Rows.{kinds_of}
-use Rattle.script_reader.specs.declared.form.TheConstants.{FORMS}
+use Rattle.script_reader.specs.Rows.{forms, kinds_of}
 use Rattle.script_reader.specs.declared.line.Line.{Line}
 use Rattle.script_reader.specs.declared.line.Line.TheVariants as line
 use Rattle.script_reader.proofs.Joined.{AreGraphic, printed_joined, words_joined}
@@ -28,7 +27,7 @@ spelled_all_graphic (kind ∷ kinds) values (text ∷ words) plain spelled =
     let parts = both_true (is_plain kind) (list_all is_plain kinds) plain in
     (spelled_graphic kind values.0 text parts.0 spelled.0, spelled_all_graphic kinds values.1 words parts.1 spelled.1)
 
-all_plain : list_all (λ form. list_all is_plain (kinds_of form)) FORMS ≡ true
+all_plain : list_all (λ form. list_all is_plain (kinds_of form)) forms ≡ true
 all_plain = refl
 
 by_parts : (l : Line) (of : (l ≡ line.Blank) ⊎ Parts l) → (l ≡ line.Blank → ⊥) → IsWithinLine of → length (text_of of) ≤ 512 → Spells (text_of of) l
@@ -36,7 +35,7 @@ by_parts l (inl blank) filled within short = absurd (filled blank)
 by_parts l (inr parts) filled within short =
     let words : List (List ℕ) = values_text (kinds_of parts.form) parts.values in
     let spelled : AreSpelled (kinds_of parts.form) parts.values words = texts_spelled (kinds_of parts.form) parts.values within in
-    let plain : list_all is_plain (kinds_of parts.form) ≡ true = passes_at (λ f. list_all is_plain (kinds_of f)) FORMS (place_of parts.form) parts.form all_plain (at_place parts.form) in
+    let plain : list_all is_plain (kinds_of parts.form) ≡ true = passes_at (λ f. list_all is_plain (kinds_of f)) forms (place_of parts.form) parts.form all_plain (at_place parts.form) in
     let graphic : AreGraphic words = spelled_all_graphic (kinds_of parts.form) parts.values words plain spelled in
     let said : Says l words = inr (record { form = parts.form; values = parts.values; spelled = spelled; same = parts.same }) in
     record {

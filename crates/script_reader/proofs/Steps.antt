@@ -1,56 +1,20 @@
 -- From one word of a form to the next.
-use Rattle.std.proofs.Common.{◌≡◌, ◌↔◌, ℕ, ◌+◌, ◌<◌, ◌≤◌, ◌||◌, zero, suc, IsTrue, Bool, true, false, List, [], ◌∷◌, ◌++◌, drop, length, get_or, None, Some, Result, Ok, Err, IsErr, refl, sym, ap, ◌∙◌, subst, inl, inr, arith, drop-cons}
+use Rattle.std.proofs.Common.{◌≡◌, ℕ, ◌+◌, ◌<◌, ◌≤◌, ◌||◌, zero, suc, Bool, true, false, List, [], ◌∷◌, ◌++◌, drop, length, get_or, None, Some, Result, Ok, Err, IsErr, refl, sym, ap, ◌∙◌, subst, arith, drop-cons}
 use Rattle.std.specs.declared.alloc.AllocError.{AllocError}
 use Rattle.uid_ranges.specs.declared.range.UidRange.{UidRange}
 use Rattle.word_text.specs.declared.kind.Kind.{Kind as Coded}
 use Rattle.word_text.specs.declared.values.Values.{Values as Slots}
 use Rattle.script_reader.specs.declared.words.Words.{Words}
-use Rattle.script_reader.specs.Cursor.{IsAtEnd, IsNext, Leads, Stops, end_of, words_left}
+use Rattle.script_reader.specs.Cursor.{IsAtEnd, IsNext, Leads, words_left}
 use Rattle.script_reader.specs.Finds.{ReadsList, ReadsValues, TakesList}
 use Rattle.script_reader.specs.Lines.{SaysSo}
 use Rattle.script_reader.specs.Rows.{kinds_of, says}
 use Rattle.script_reader.specs.declared.form.Form.{Form}
-use Rattle.word_text.specs.Grammar.{Kind, ValueOf, Values, AreOf, AreSpelled, Fits, IsSpelled, SpellsRanges, has_list, is_list, ranges, valued}
+use Rattle.word_text.specs.Grammar.{Kind, ValueOf, Values, AreOf, AreSpelled, IsSpelled, SpellsRanges, has_list, is_list, ranges, valued}
 use Rattle.word_text.specs.Kinds.{ReadsRanges, kind_of, kinds_in}
 use Rattle.word_text.specs.Slots.{ReadsValue, filled, list_with, listed, nothing, put}
 use Rattle.script_reader.specs.Words.{Word, texts}
 use Rattle.word_text.proofs.OneValue.{one_value}
-
--- The words from here on are to be of these kinds, and those from the start of all of them. So the whole goes as the rest does.
-pub record Goes (kinds rest : List Kind) (from at : Words) : Type 0 where
-  pub whole : AreOf rest (texts (words_left at)) → AreOf kinds (texts (words_left from))
-  pub stops : (column : ℕ) → Stops rest (words_left at) (end_of at) column → Stops kinds (words_left from) (end_of from) column
-
-pub goes_from : (kinds : List Kind) (from : Words) → Goes kinds kinds from from
-goes_from kinds from = record { whole = λ all. all; stops = λ column stop. stop }
-
--- this word and those after it
-words_are : (at next : Words) (text : List ℕ) → Leads text at → IsNext at next → words_left at ≡ record { column = at.column; text = text } ∷ words_left next
-words_are at next text leads step = leads ∙ ap (λ (ws : List Word). record { column = at.column; text = text } ∷ ws) (sym step.words)
-
-pub goes_on : (kinds rest : List Kind) (kind : Kind) (from at next : Words) (text : List ℕ) → Goes kinds (kind ∷ rest) from at → Leads text at → Fits kind text → IsNext at next →
-    Goes kinds rest from next
-goes_on kinds rest kind from at next text goes leads fits step =
-    let cut = words_are at next text leads step in record {
-      whole = λ all. goes.whole (subst (λ (ws : List Word). AreOf (kind ∷ rest) (texts ws)) (sym cut) ((fits.0, all.0), (fits.1, all.1)));
-      stops = λ column stop. goes.stops column (subst (λ (ws : List Word). Stops (kind ∷ rest) ws (end_of at) column) (sym cut)
-          (inr (fits.0, fits.1, subst (λ (end : ℕ). Stops rest (words_left next) end column) step.end stop)));
-    }
-
-pub stops_missing : (kinds rest : List Kind) (kind : Kind) (from at : Words) → Goes kinds (kind ∷ rest) from at → IsAtEnd at → Stops kinds (words_left from) (end_of from) at.column
-stops_missing kinds rest kind from at goes ends =
-    goes.stops at.column (subst (λ (ws : List Word). Stops (kind ∷ rest) ws (end_of at) at.column) (sym ends.0) ends.1)
-
-pub stops_other : (kinds rest : List Kind) (kind : Kind) (from at : Words) (text : List ℕ) → Goes kinds (kind ∷ rest) from at → Leads text at → (Fits kind text → ⊥) →
-    Stops kinds (words_left from) (end_of from) at.column
-stops_other kinds rest kind from at text goes leads never =
-    goes.stops at.column (subst (λ (ws : List Word). Stops (kind ∷ rest) ws (end_of at) at.column) (sym leads) (inl (λ value spelled. never (value, spelled), refl)))
-
-pub stops_more : (kinds : List Kind) (from at : Words) (text : List ℕ) → Goes kinds [] from at → Leads text at → Stops kinds (words_left from) (end_of from) at.column
-stops_more kinds from at text goes leads = goes.stops at.column (subst (λ (ws : List Word). Stops [] ws (end_of at) at.column) (sym leads) refl)
-
-pub whole_fits : (kinds : List Kind) (from at : Words) → Goes kinds [] from at → IsAtEnd at → AreOf kinds (texts (words_left from))
-whole_fits kinds from at goes ends = goes.whole (subst (λ (ws : List Word). AreOf [] (texts ws)) (sym ends.0) (tt, tt))
 
 -- the kinds from a place on
 abbrev pub kinds_from : List Coded → ℕ → List Kind
@@ -149,25 +113,6 @@ has_list-at (kind ∷ kinds) (suc place) d within is = by (is_list (kind_of kind
     by false rest = rest
 
 -- the same over the code's kinds, by their places
-pub goes_next : (kinds : List Coded) (place : ℕ) (d : Coded) (from at next : Words) (text : List ℕ) → place < length kinds → Goes (kinds_in kinds) (kinds_from kinds place) from at →
-    Leads text at → Fits (kind_of (get_or kinds place d)) text → IsNext at next → Goes (kinds_in kinds) (kinds_from kinds (place + 1)) from next
-goes_next kinds place d from at next text within goes leads fits step =
-    goes_on (kinds_in kinds) (kinds_from kinds (place + 1)) (kind_of (get_or kinds place d)) from at next text
-    (subst (λ (ks : List Kind). Goes (kinds_in kinds) ks from at) (kinds_at kinds place d within) goes) leads fits step
-
-pub goes_missing : (kinds : List Coded) (place : ℕ) (d : Coded) (from at : Words) → place < length kinds → Goes (kinds_in kinds) (kinds_from kinds place) from at →
-    IsAtEnd at → Stops (kinds_in kinds) (words_left from) (end_of from) at.column
-goes_missing kinds place d from at within goes ends =
-    stops_missing (kinds_in kinds) (kinds_from kinds (place + 1)) (kind_of (get_or kinds place d)) from at
-    (subst (λ (ks : List Kind). Goes (kinds_in kinds) ks from at) (kinds_at kinds place d within) goes) ends
-
-pub goes_other : (kinds : List Coded) (place : ℕ) (d : Coded) (from at : Words) (text : List ℕ) (fits : Bool) → place < length kinds → Goes (kinds_in kinds) (kinds_from kinds place) from at →
-    Leads text at → IsTrue fits ↔ Fits (kind_of (get_or kinds place d)) text → fits ≡ false → Stops (kinds_in kinds) (words_left from) (end_of from) at.column
-goes_other kinds place d from at text fits within goes leads told never =
-    stops_other (kinds_in kinds) (kinds_from kinds (place + 1)) (kind_of (get_or kinds place d)) from at text
-    (subst (λ (ks : List Kind). Goes (kinds_in kinds) ks from at) (kinds_at kinds place d within) goes) leads
-    (λ yes. let different : false ≡ true = sym never ∙ told.1 yes in cc)
-
 pub fills_next : (kinds : List Coded) (place : ℕ) (d : Coded) (from at next : Words) (text : List ℕ) (old new : Slots) → place < length kinds →
     Fills (kinds_in kinds) (kinds_from kinds place) from at old → Leads text at → ReadsValue (kind_of (get_or kinds place d)) text old (Some new) → IsNext at next →
     Fills (kinds_in kinds) (kinds_from kinds (place + 1)) from next new

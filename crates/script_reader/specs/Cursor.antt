@@ -1,7 +1,7 @@
 -- Going over the words of a line, one by one.
-use Rattle.std.specs.Prelude.{◌≡◌, ℕ, ◌+◌, ◌⊎◌, false, List, [], ◌∷◌, drop, length}
+use Rattle.std.specs.Prelude.{◌≡◌, ℕ, zero, suc, ◌+◌, ◌⊎◌, false, List, [], ◌∷◌, drop, length}
 use Rattle.script_reader.specs.declared.words.Words.{Words}
-use Rattle.word_text.specs.Grammar.{Kind, ValueOf, IsSpelled}
+use Rattle.word_text.specs.Grammar.{Kind, ValueOf, Fits, IsSpelled}
 use Rattle.script_reader.specs.Words.{Word, words_from}
 
 -- the words from here on
@@ -33,3 +33,22 @@ Stops (kind ∷ kinds) [] end column = column ≡ end
 Stops (kind ∷ kinds) (word ∷ words) end column =
     (((value : ValueOf kind) → IsSpelled kind value word.text → ⊥) × (column ≡ word.column))
     ⊎ ((value : ValueOf kind) × IsSpelled kind value word.text × Stops kinds words end column)
+
+-- so many words were gone over
+pub record IsAfter (count : ℕ) (from after : Words) : Type 0 where
+  pub words : words_left after ≡ drop count (words_left from)
+  pub end : end_of after ≡ end_of from
+
+-- so many of the first words are of the first kinds
+abbrev pub Fit : ℕ → List Kind → List Word → Type 0
+Fit zero kinds words = Unit {0}
+Fit (suc count) [] words = ⊥
+Fit (suc count) (kind ∷ kinds) [] = ⊥
+Fit (suc count) (kind ∷ kinds) (word ∷ words) = Fits kind word.text × Fit count kinds words
+
+-- the first of these words is missing, is none of its kind, or is one too many
+abbrev pub StopsHere : List Kind → List Word → ℕ → ℕ → Type 0
+StopsHere [] [] end column = ⊥
+StopsHere [] (word ∷ words) end column = column ≡ word.column
+StopsHere (kind ∷ kinds) [] end column = column ≡ end
+StopsHere (kind ∷ kinds) (word ∷ words) end column = (Fits kind word.text → ⊥) × (column ≡ word.column)

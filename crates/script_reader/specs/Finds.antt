@@ -1,19 +1,26 @@
 -- Finding the form of words, and reading their values.
-use Rattle.std.specs.Prelude.{◌≡◌, ℕ, ◌≤◌, true, List, Option, None, Some, Result, Ok, Err}
+use Rattle.std.specs.Prelude.{◌≡◌, ℕ, ◌≤◌, true, List, drop, Option, None, Some, Result, Ok, Err}
 use Rattle.std.specs.List.{AllByRecursion}
 use Rattle.std.specs.declared.alloc.AllocError.{AllocError}
 use Rattle.uid_ranges.specs.declared.range.UidRange.{UidRange}
+use Rattle.script_reader.specs.declared.find.Reached.{Reached}
 use Rattle.script_reader.specs.declared.form.Form.{Form}
 use Rattle.script_reader.specs.declared.line.Line.{Line}
 use Rattle.word_text.specs.declared.values.Values.{Values as Slots}
 use Rattle.script_reader.specs.declared.words.Words.{Words}
-use Rattle.script_reader.specs.Cursor.{Stops, end_of, words_left}
+use Rattle.script_reader.specs.Cursor.{Fit, IsAfter, Stops, StopsHere, end_of, words_left}
 use Rattle.word_text.specs.Grammar.{Kind, ValueOf, AreOf, AreSpelled, IsSpelled, Values, has_list, is_list}
 use Rattle.script_reader.specs.Languages.{Language}
 use Rattle.script_reader.specs.Lines.{SaysSo, script}
 use Rattle.script_reader.specs.Rows.{kinds_of}
 use Rattle.word_text.specs.Slots.{filled, list_with, listed, nothing}
 use Rattle.script_reader.specs.Words.{texts}
+
+-- so many words are of these kinds, and the next one isn't
+pub record StopsAt (kinds : List Kind) (cursor : Words) (reached : Reached) : Type 0 where
+  pub fit : Fit reached.count kinds (words_left cursor)
+  pub after : IsAfter reached.count cursor reached.after
+  pub stops : StopsHere (drop reached.count kinds) (words_left reached.after) (end_of cursor) reached.after.column
 
 -- the words stop being of the form, in this column or before it
 abbrev pub StopsBy : (l : Language) → Words → ℕ → l.Form → Type 0

@@ -2,12 +2,11 @@
 use Rattle.std.specs.Prelude.{◌≡◌, ℕ, ◌≤◌, ◌&&◌, ◌⊎◌, Bool, true, List, [], ◌∷◌, length, nat_le, slice_index}
 use Rattle.std.specs.List.{list_all}
 use Rattle.script_reader.specs.declared.form.Form.{Form}
-use Rattle.script_reader.specs.declared.form.TheConstants.{FORMS}
 use Rattle.script_reader.specs.declared.line.Line.{Line}
 use Rattle.script_reader.specs.declared.line.Line.TheVariants as line
 use Rattle.word_text.specs.Grammar.{AreSpelled, Values, has_list}
 use Rattle.script_reader.specs.Languages.{Language}
-use Rattle.script_reader.specs.Rows.{kinds_of, line_with}
+use Rattle.script_reader.specs.Rows.{forms, kinds_of, line_with}
 use Rattle.script_reader.specs.Words.{texts, words_of}
 
 abbrev pub hash : ℕ
@@ -20,7 +19,7 @@ IsBlank (first ∷ others) = slice_index first 0 ≡ hash
 
 -- the language of a script
 abbrev pub script : Language
-script = record { Form = Form; forms = FORMS; kinds_of = kinds_of }
+script = record { Form = Form; forms = forms; kinds_of = kinds_of }
 
 -- the words are of a form, and say the line
 pub record SaysSo (l : Line) (words : List (List ℕ)) : Type 0 where

@@ -1,5 +1,5 @@
 -- The forms of lines: the kinds of their words, and the line that values of these say.
-use Rattle.std.specs.Prelude.{true, false, List, [], ◌∷◌, codes, None, Some}
+use Rattle.std.specs.Prelude.{true, false, List, [], ◌∷◌, codes, map, None, Some}
 use Rattle.commands.specs.declared.command.Command.TheVariants as command
 use Rattle.commands.specs.declared.command.Way.TheVariants as way
 use Rattle.prefixes.specs.declared.addr.Family.TheVariants as family
@@ -10,6 +10,7 @@ use Rattle.word_text.specs.Slots.{filled, list_in, nothing}
 use Rattle.word_text.specs.declared.values.Values.{Values as Slots}
 use Rattle.script_reader.specs.declared.form.Form.{Form}
 use Rattle.script_reader.specs.declared.form.Form.TheVariants as form
+use Rattle.script_reader.specs.declared.form.TheConstants.{FORMS}
 use Rattle.script_reader.specs.declared.line.Line.{Line}
 use Rattle.script_reader.specs.declared.line.Line.TheVariants as line
 use Rattle.script_reader.specs.declared.line.ShowLine.TheVariants as show
@@ -52,3 +53,7 @@ says form = (row_of form).says
 -- the line of a form with these values
 abbrev pub line_with : (form : Form) → Values (kinds_of form) → Line
 line_with form values = says form (filled (kinds_of form) values nothing) (list_in (kinds_of form) values)
+
+-- the forms, in the order in which they are tried
+abbrev pub forms : List Form
+forms = map (λ entry. entry.form) FORMS

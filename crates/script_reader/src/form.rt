@@ -27,27 +27,35 @@ pub enum Form {
     ShowNetworks,
 }
 
+/// A form, and how many of its first words are those of the form before it.
+#[derive(Clone, Copy)]
+pub struct Entry {
+    pub form: Form,
+    pub shared: usize,
+}
+
 /// All forms, in the order in which they are tried.
-pub const FORMS: [Form; 19] = [
-    Form::LinkAdd,
-    Form::LinkRemove,
-    Form::CreatePhysical,
-    Form::InterfaceAdd,
-    Form::RouteAdd,
-    Form::RouteAddVia,
-    Form::RouteAddUnreachable,
-    Form::RouteAddThrow,
-    Form::RouteRemove,
-    Form::RouteRemoveSpecial,
-    Form::PermissionNetwork,
-    Form::LockdownAdd,
-    Form::LockdownRemove,
-    Form::Packet,
-    Form::PacketOn,
-    Form::ShowRules4,
-    Form::ShowRules6,
-    Form::ShowTable,
-    Form::ShowNetworks,
+#[rattlefmt::skip]
+pub const FORMS: [Entry; 19] = [
+    Entry { form: Form::LinkAdd, shared: 0 },
+    Entry { form: Form::LinkRemove, shared: 1 },
+    Entry { form: Form::CreatePhysical, shared: 0 },
+    Entry { form: Form::InterfaceAdd, shared: 0 },
+    Entry { form: Form::RouteAdd, shared: 0 },
+    Entry { form: Form::RouteAddVia, shared: 5 },
+    Entry { form: Form::RouteAddUnreachable, shared: 5 },
+    Entry { form: Form::RouteAddThrow, shared: 5 },
+    Entry { form: Form::RouteRemove, shared: 1 },
+    Entry { form: Form::RouteRemoveSpecial, shared: 5 },
+    Entry { form: Form::PermissionNetwork, shared: 0 },
+    Entry { form: Form::LockdownAdd, shared: 0 },
+    Entry { form: Form::LockdownRemove, shared: 1 },
+    Entry { form: Form::Packet, shared: 0 },
+    Entry { form: Form::PacketOn, shared: 4 },
+    Entry { form: Form::ShowRules4, shared: 0 },
+    Entry { form: Form::ShowRules6, shared: 2 },
+    Entry { form: Form::ShowTable, shared: 1 },
+    Entry { form: Form::ShowNetworks, shared: 1 },
 ];
 
 impl Form {

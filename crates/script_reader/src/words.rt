@@ -20,15 +20,16 @@ fn space_len(text: &[u8]) -> usize
     text.iter().take_while(|byte| **byte == SPACE).count()
 }
 
-/// Where the word after the one in front begins.
-fn next_place(text: &[u8]) -> usize
-    requires { slice_index text.now 0 ≢ 32 }
+/// Where the word after the one in front, of this length, begins.
+fn next_place(text: &[u8], len: usize) -> usize
+    requires at_word { slice_index text.now 0 ≢ 32 }
+    requires word { len ≡ prefix_len is_no_space text.now }
+    requires within { len ≤ length text.now }
     ensures within { result ≤ length text.now }
     ensures words { (column : ℕ) → words_from (column + result) false (drop result text.now)
         ≡ drop 1 (words_from column false text.now) }
     ensures at_word { slice_index (drop result text.now) 0 ≢ 32 }
 {
-    let len = word_len(text);
     len + space_len(&text[len..])
 }
 
@@ -46,15 +47,33 @@ fn first_place(text: &[u8]) -> usize
 #[derive(Clone, Copy)]
 pub struct Words<'a> {
     rest: &'a [u8],
+    /// How many bytes the next word has.
+    len: usize,
     column: u32,
     ghost in_line: { column + length rest.now ≤ 513 },
     ghost at_word: { slice_index rest.now 0 ≢ 32 },
+    ghost word: { len ≡ prefix_len is_no_space rest.now },
+    ghost within: { len ≤ length rest.now },
 }
 
 impl<'a> Words<'a> {
     ghost use Rattle.script_reader.specs.Cursor.{end_of, words_left, IsAtEnd, IsNext, Leads};
     ghost use Rattle.script_reader.specs.Lines.{IsBlank};
-    ghost use Rattle.script_reader.specs.Words.{texts, words_of};
+    ghost use Rattle.script_reader.specs.Words.{texts, words_from, words_of};
+
+    /// The words from a word on, or from the end of a line.
+    fn from(rest: &'a [u8], column: u32) -> Words<'a>
+        requires in_line { column + length rest.now ≤ 513 }
+        requires at_word { slice_index rest.now 0 ≢ 32 }
+        ensures words { words_left result ≡ words_from column false rest.now }
+        ensures end { end_of result ≡ column + length rest.now }
+    {
+        Words {
+            rest,
+            len: word_len(rest),
+            column,
+        }
+    }
 
     /// The words of a line.
     pub fn of(text: &'a [u8]) -> Words<'a>
@@ -63,21 +82,17 @@ impl<'a> Words<'a> {
         ensures end { end_of result ≡ length text.now + 1 }
     {
         let place = first_place(text);
-        Words {
-            rest: &text[place..],
-            column: 1 + place as u32,
-        }
+        Words::from(&text[place..], 1 + place as u32)
     }
 
     /// The next word.
     pub fn first(&self) -> Option<&'a [u8]>
         ensures { MatchOption result (IsAtEnd self.now) (λ text. Leads text.now self.now) }
     {
-        let len = word_len(self.rest);
-        if len == 0 {
+        if self.len == 0 {
             return None;
         }
-        Some(&self.rest[..len])
+        Some(&self.rest[..self.len])
     }
 
     /// The column of the next word, or after the line.
@@ -91,9 +106,8 @@ impl<'a> Words<'a> {
     pub fn advance(&mut self)
         ensures { IsNext self.old self.new }
     {
-        let place = next_place(self.rest);
-        self.rest = &self.rest[place..];
-        self.column += place as u32;
+        let place = next_place(self.rest, self.len);
+        *self = Words::from(&self.rest[place..], self.column + place as u32);
     }
 
     /// Whether there is no word, or the first one begins a comment.

@@ -8,7 +8,7 @@ use Rattle.clap.specs.Values.{kind_of}
 use Rattle.clap.proofs.WalkLemmas.{list_any-map}
 use Rattle.command_words.specs.Forms.{Text, FormView, IsForm}
 use Rattle.command_words.specs.Refused.{is_refused}
-use Rattle.command_words.specs.Read.{Given, read_found, SaysSome}
+use Rattle.command_words.specs.Read.{Reading, read_found, SaysSome}
 use Rattle.command_words.specs.View.{view_of}
 use Rattle.command_words.proofs.Accepted.{is_usable}
 use Rattle.command_words.proofs.Agrees.{refused_none, refused_given, taken_given}
@@ -18,7 +18,7 @@ use Rattle.command_words.proofs.read.read_words.Goals as goal
 
 -- where the walk gives nothing, the words have no form
 no_form : (words : List Text) → words_given words ≡ None → (form : FormView) → IsForm words form → ⊥
-no_form words none form has = subst (λ (o : Option Given). SaysSome o form) none (given_from_form words form has)
+no_form words none form has = subst (λ (o : Option Reading). SaysSome o form) none (given_from_form words form has)
 
 pub returns-then-has_refused-clause-no_form : goal.returns-then-has_refused-clause-no_form
 returns-then-has_refused-clause-no_form c = λ _ form has.
@@ -49,7 +49,7 @@ returns-in-Ok-try_get_matches_from-clause-ok c =
     let parsed = c.in-Ok-try_get_matches_from.ensures in
     let fits = parsed.kinds (ap is_simple_and_free app ∙ is_usable) in
     let reads = ap read_found (parsed.matches (ap is_simple app ∙ refl)).1 ∙ taken_given _ words app clean fits in
-    IfOk-weaker c.form_in.result _ _ (λ form says. form_from_given words (view_of form) (subst (λ (o : Option Given). SaysSome o (view_of form)) reads says)) c.form_in.ensures.ok
+    IfOk-weaker c.form_in.result _ _ (λ form says. form_from_given words (view_of form) (subst (λ (o : Option Reading). SaysSome o (view_of form)) reads says)) c.form_in.ensures.ok
 
 pub returns-in-Ok-try_get_matches_from-clause-no_form : goal.returns-in-Ok-try_get_matches_from-clause-no_form
 returns-in-Ok-try_get_matches_from-clause-no_form c = λ fault form has.
@@ -59,7 +59,7 @@ returns-in-Ok-try_get_matches_from-clause-no_form c = λ fault form has.
     let parsed = c.in-Ok-try_get_matches_from.ensures in
     let fits = parsed.kinds (ap is_simple_and_free app ∙ is_usable) in
     let reads = ap read_found (parsed.matches (ap is_simple app ∙ refl)).1 ∙ taken_given _ words app clean fits in
-    c.form_in.ensures.no_form fault form (subst (λ (o : Option Given). SaysSome o form) (sym reads) (given_from_form words form has))
+    c.form_in.ensures.no_form fault form (subst (λ (o : Option Reading). SaysSome o form) (sym reads) (given_from_form words form has))
 
 pub returns : goal.returns
 returns c = record {

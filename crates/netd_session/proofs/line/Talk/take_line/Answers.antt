@@ -1,10 +1,9 @@
-use Rattle.std.proofs.Common.{ap, refl, subst}
+use Rattle.std.proofs.Common.{refl, subst}
 use Rattle.script_reader.specs.BadLines.{IfBad, IsBadAt}
 use Rattle.script_reader.specs.Lines.{Spells}
 use Rattle.script_reader.specs.declared.line.Line.{Line}
 use Rattle.netd_session.proofs.Taking.{answered_line, bad_line, left_line}
 use Rattle.netd_session.proofs.Tellings.{error_is}
-use Rattle.netd_session.specs.Turns.{standing}
 use Rattle.netd_session.specs.declared.end.Stop.TheVariants as stop
 use Rattle.netd_session.proofs.line.Talk.take_line.Goals as goal
 
@@ -16,7 +15,7 @@ returns-in-Err-Bad-clause-takes g c =
     bad_line c.tell_bad_line.result _ _ _ _ _ _ c.in-Err-Bad.column _ _
     (subst (IfBad (IsBadAt c.args.text.now)) c.in-Err-Bad.field-0-is c.in-Err-Bad.ensures.bad)
     (subst (IfBad (λ column. (line : Line) → Spells c.args.text.now line → ⊥)) c.in-Err-Bad.field-0-is c.in-Err-Bad.ensures.none)
-    (ap (λ controller. standing controller (g.K.Kernel.seen c.args.kernel.now)) c.tell_bad_line.ensures.controller) c.tell_bad_line.ensures.turns c.tell_bad_line.ensures.told
+    refl refl c.tell_bad_line.ensures
 
 pub returns-in_err-answer_line-in-Ok-clause-takes : goal.returns-in_err-answer_line-in-Ok-clause-takes
 returns-in_err-answer_line-in-Ok-clause-takes g c =

@@ -6,5 +6,5 @@ use Rattle.script_reader.proofs.words.Words.first.Goals as goal
 
 pub returns : goal.returns
 returns c =
-    let some : 0 < prefix_len is_no_space c.args.self.now.rest.now = omega (arith, c.word_len-len.ensures.word, c.if-len-eq0.false) in
-    rw c.word_len-len.ensures.word (first_and_others _ c.args.self.now.rest.now c.args.self.now.at_word some)
+    let some : 0 < prefix_len is_no_space c.args.self.now.rest.now = omega arith in
+    rw c.args.self.now.word (first_and_others _ c.args.self.now.rest.now c.args.self.now.at_word some)
