@@ -23,6 +23,7 @@ use Rattle.policy_meaning.specs.Policy.{IsBarred, policy}
 use Rattle.policy_meaning.specs.Promise.{StaysIn}
 use Rattle.policy_state.specs.Step.{changed, refusal}
 use Rattle.policy_state.specs.Table.{rule_table, route_list}
+use Rattle.networks.specs.declared.network.Network.{Network}
 use Rattle.policy_state.specs.Good.{IsGood}
 use Rattle.policy_state.specs.View.{StateView, start}
 use Rattle.commands.specs.declared.command.Command.{Command}
@@ -117,21 +118,53 @@ same_entries before after xs ys is same = append_cancel_left before.journal xs y
 
 -- what lockdown promises of the policy
 abbrev pub BarredStaysIn : Type 0
-BarredStaysIn = (s : StateView) (packet : Packet) → IsBarred s packet → packet.uid.number ≢ 0 → StaysIn s.networks (policy s packet)
+BarredStaysIn = (s : StateView) (packet : Packet) → IsGood s → IsBarred s packet → packet.uid.number ≢ 0 → StaysIn s.networks (policy s packet)
+
+-- what stays in stays in where more networks may be used
+abbrev pub MoreStayIn : Type 0
+MoreStayIn = (ns ms : List Network) (v : Verdict) → StaysIn ns v → StaysIn (ns ++ ms) v × StaysIn (ms ++ ns) v
+
+-- the state after what was asked is good, or nothing was asked
+pub good_or_same : (a : Result Answer AllocError) (command : Command) (old new : ControllerView) (before after : KernelView)
+    → (IsTaken old before command → IsGood (changed old.state command)) → IsAnswered a command old new before after → IsGood (changed old.state command) ⊎ (after ≡ before)
+good_or_same (Ok answer.Done) command old new before after good is = inl (good is.0)
+good_or_same (Ok (answer.Refused c)) command old new before after good is = inr is.2
+good_or_same (Ok (answer.KernelRefused q)) command old new before after good is = inl (good is.0)
+good_or_same (Ok (answer.Halted q)) command old new before after good (inl is) = inr is.1
+good_or_same (Ok (answer.Halted q)) command old new before after good (inr is) = inl (good is.0)
+good_or_same (Err e) command old new before after good is = inr is.1
 
 -- what the policy keeps in at every moment stays in
-pub locked : (before after : KernelView) (old new : StateView)
-    → BarredStaysIn → KeepsPolicy before after old new → KeepsLockdown before after old new
-locked before after old new bars keeps entries grew packet was is user i within =
-    stays_in (at_each (keeps.moments packet) i (subst (λ (es : List Entry). i ≤ length es) (sym same) within))
+pub locked : (before after : KernelView) (old new : StateView) → BarredStaysIn → MoreStayIn → IsGood old → IsGood new ⊎ (after ≡ before)
+    → ((packet : Packet) → walk (state_of before) packet ≡ policy old packet) → KeepsPolicy before after old new → KeepsLockdown before after old new
+locked before after old new bars more good either means keeps entries grew packet was is user i within =
+    by either (subst (λ (es : List Entry). i ≤ length es) (sym same) within)
   where
     same : keeps.entries ≡ entries
     same = same_entries before after keeps.entries entries keeps.grew grew
 
-    stays_in : (walk_along (state_of before) packet keeps.entries i ≡ policy old packet) ⊎ (walk_along (state_of before) packet keeps.entries i ≡ policy new packet)
+    of_old : (v : Verdict) → v ≡ policy old packet → StaysIn (old.networks ++ new.networks) v
+    of_old v e = subst (StaysIn (old.networks ++ new.networks)) (sym e) (more old.networks new.networks (policy old packet) (bars old packet good was user)).0
+
+    at : StaysIn (old.networks ++ new.networks) (walk_along (state_of before) packet keeps.entries i) → StaysIn (old.networks ++ new.networks) (walk_along (state_of before) packet entries i)
+    at h = subst (λ (es : List Entry). StaysIn (old.networks ++ new.networks) (walk_along (state_of before) packet es i)) same h
+
+    stays_in : IsGood new → (walk_along (state_of before) packet keeps.entries i ≡ policy old packet) ⊎ (walk_along (state_of before) packet keeps.entries i ≡ policy new packet)
         → StaysIn (old.networks ++ new.networks) (walk_along (state_of before) packet entries i)
-    stays_in (inl e) = subst (λ (es : List Entry). StaysIn (old.networks ++ new.networks) (walk_along (state_of before) packet es i)) same (subst (StaysIn (old.networks ++ new.networks)) (sym e) (stays_in-front old.networks new.networks (policy old packet) (bars old packet was user)))
-    stays_in (inr e) = subst (λ (es : List Entry). StaysIn (old.networks ++ new.networks) (walk_along (state_of before) packet es i)) same (subst (StaysIn (old.networks ++ new.networks)) (sym e) (stays_in-end old.networks new.networks (policy new packet) (bars new packet is user)))
+    stays_in good_new (inl e) = at (of_old (walk_along (state_of before) packet keeps.entries i) e)
+    stays_in good_new (inr e) = at (subst (StaysIn (old.networks ++ new.networks)) (sym e) (more new.networks old.networks (policy new packet) (bars new packet good_new is user)).1)
+
+    none : after ≡ before → [] ≡ keeps.entries
+    none unchanged = same_entries before after [] keeps.entries
+        (unchanged ∙ sym (ap (λ (es : List Entry). record before { journal = es }) (append-nil before.journal))) keeps.grew
+
+    by : IsGood new ⊎ (after ≡ before) → i ≤ length keeps.entries → StaysIn (old.networks ++ new.networks) (walk_along (state_of before) packet entries i)
+    by (inl good_new) inside = stays_in good_new (at_each (keeps.moments packet) i inside)
+    by (inr unchanged) inside =
+        let first : i ≤ 0 = subst (λ (es : List Entry). i ≤ length es) (sym (none unchanged)) inside in
+        let zero_is : 0 ≡ i = omega (arith, first) in
+        at (subst (λ (n : ℕ). StaysIn (old.networks ++ new.networks) (walk_along (state_of before) packet keeps.entries n)) zero_is
+        (subst (λ (es : List Entry). StaysIn (old.networks ++ new.networks) (walk_along (state_of before) packet es 0)) (none unchanged) (of_old (walk (state_of before) packet) (means packet))))
 
 -- that the table means the policy
 abbrev pub TableMeansPolicy : Type 0
@@ -141,7 +174,7 @@ TableMeansPolicy = (s : StateView) (k : KernelState) (packet : Packet) → IsGoo
 pub sends : (controller : ControllerView) (kernel : KernelView) → TableMeansPolicy → BarredStaysIn → IsKept controller kernel → SendsByPolicy controller kernel
 sends controller kernel means bars kept = record {
   everywhere = everywhere;
-  locked = λ running packet barred user. subst (StaysIn controller.state.networks) (sym (everywhere running packet)) (bars controller.state packet barred user);
+  locked = λ running packet barred user. subst (StaysIn controller.state.networks) (sym (everywhere running packet)) (bars controller.state packet kept.good barred user);
 }
   where
     everywhere : controller.halted ≡ None → (packet : Packet) → walk (state_of kernel) packet ≡ policy controller.state packet

@@ -8,7 +8,9 @@ ghost use Rattle.policy_state.specs.View.{start};
 use kernel_model::{Kernel, Plan, Request};
 use net_names::Code;
 use plan_exec::{Carried, carry};
-use policy_meaning::{barred_stays_in, own_rule_means_start, table_means_policy};
+use policy_meaning::{
+    barred_stays_in, more_networks_stay_in, own_rule_means_start, table_means_policy,
+};
 use policy_state::{Command, State, StepFault};
 use rule_compile::{plan, plan_ends, plan_law, requests_can_be_asked, start_law, start_plan};
 use std::alloc::{AllocError, Global};
@@ -269,6 +271,7 @@ impl Controller {
         plan_ends();
         table_means_policy();
         barred_stays_in();
+        more_networks_stay_in();
         self.answer(kernel, command)
     }
 }

@@ -1,8 +1,15 @@
-mod Bests
-mod Given
-mod Loopback
-mod Givers
-mod Single
-mod Tables
 mod Answers
+mod AnswersInTurn
+mod Bests
+mod DefaultNetwork
+mod Given
+mod Kernel
+mod Levels
+mod LevelsInTurn
+mod Loopback
 mod Meaning
+pub mod Promised
+mod RankLevels
+mod Routing
+mod RowAnswers
+mod TwoWays

@@ -1,7 +1,7 @@
 // What networks say of a packet.
 ghost use Rattle.std.specs.Prelude.{◌≡◌, map};
 ghost use Rattle.policy_meaning.specs.Asking.{is_at, routes_at};
-ghost use Rattle.policy_meaning.specs.Policy.{first_of, asks_routes, asks_link, asks};
+ghost use Rattle.policy_meaning.specs.Policy.{first_given, asks_routes, asks_link, asks};
 ghost use Rattle.prefixes.specs.Best.{best};
 
 use networks::{Kind, LinkRoute, Network};
@@ -45,13 +45,13 @@ pub fn ask_link(network: &Network, link: u16, packet: &Packet) -> Option<Verdict
 }
 
 fn ask_interfaces(network: &Network, packet: &Packet) -> Option<Verdict>
-    ensures { result ≡ first_of (map (λ link. asks_link network.now link packet.now)
-        network.now.interfaces) }
+    ensures { result ≡ first_given (λ link. asks_link network.now link packet.now)
+        network.now.interfaces }
 {
     for link in network.interfaces.as_slice() {
-        let says = ask_link(network, *link, packet);
-        if says.is_some() {
-            return says;
+        let answer = ask_link(network, *link, packet);
+        if answer.is_some() {
+            return answer;
         }
     }
     None

@@ -1,109 +1,44 @@
-ghost use Rattle.std.specs.Prelude.{◌≡◌, ◌&&◌, if◌then◌else◌, None};
-ghost use Rattle.std.specs.Option.{option_copied};
-ghost use Rattle.fwmark.specs.Mark.{net_of, is_explicit};
-ghost use Rattle.networks.specs.Lists.{find_id};
+// The decision on a packet, point by point.
+ghost use Rattle.std.specs.Prelude.{◌≡◌, ◌&&◌, ◌||◌, ◌==◌, not, true};
+ghost use Rattle.fwmark.specs.Mark.{net_of, is_explicit, is_protected, has_system};
+ghost use Rattle.networks.specs.Kinds.{is_free, is_secure, is_bypass};
+ghost use Rattle.policy_meaning.specs.Asking.{first_of};
 ghost use Rattle.policy_meaning.specs.Policy.{
-  first_of,
+  only_if,
+  first_given,
+  by_routes,
   may_choose,
-  is_free,
   asks_named,
-  asks_bound,
   asks_local,
+  asks_default,
+  names_virtual,
+  is_usable,
+  asks_holders,
   is_loopback,
   may_use_lo,
   is_to_device,
+  is_locked_down,
   root_interface,
-  is_barred,
+  held,
   chosen,
   rest,
+  asks_pair,
   policy_made,
+  policy_passed,
   policy,
 };
+ghost use Rattle.rule_match.specs.Packet.{is_made};
 
-use crate::asking::{ask, ask_link};
-use fwmark::{Mark, Permission, suffices};
-use networks::{Kind, LOCAL_ID, Network};
-use policy_state::State;
+use crate::asking::ask_link;
+use crate::holders::{Holder, ask_holders};
+use crate::named::{
+    ask_bound, ask_bypass_named, ask_choice, ask_default, ask_free_named, ask_local, ask_reached,
+    ask_secure_named, names_virtual,
+};
+use crate::rights::{has_system, is_explicit, is_protected, is_root, names_none};
+use policy_state::{State, TetherPair};
 use prefixes::Addr;
 use rule_match::{LOOPBACK, Packet, Verdict};
-
-fn may_choose(packet: &Packet, network: &Network) -> bool
-    ensures { result ≡ may_choose packet.now network.now }
-{
-    match &network.kind {
-        Kind::Local => true,
-        Kind::Physical { permission } => suffices(
-            Mark::of_bits(packet.mark()).permission,
-            *permission,
-        ),
-        Kind::Virtual { .. } => false,
-    }
-}
-
-fn is_free(network: &Network) -> bool
-    ensures { result ≡ is_free network.now }
-{
-    match &network.kind {
-        Kind::Physical { permission } => *permission == Permission::Nothing,
-        Kind::Local | Kind::Virtual { .. } => false,
-    }
-}
-
-/// The network that the mark names.
-fn named<'a>(state: &'a State, packet: &Packet) -> Option<&'a Network>
-    ensures { option_copied result ≡ find_id (net_of packet.now.mark) state.now.networks }
-{
-    state.networks().get(Mark::of_bits(packet.mark()).net)
-}
-
-fn is_explicit(packet: &Packet) -> bool
-    ensures { result ≡ is_explicit packet.now.mark }
-{
-    Mark::of_bits(packet.mark()).explicit
-}
-
-/// What the network that the mark names says, where the packet may choose it.
-fn ask_choice(state: &State, packet: &Packet) -> Option<Verdict>
-    ensures { result ≡ asks_named state.now packet.now (may_choose packet.now) }
-{
-    let choice = named(state, packet)?;
-    if may_choose(packet, choice) {
-        ask(choice, packet)
-    } else {
-        None
-    }
-}
-
-/// What the network that the mark names says, where it asks for no permission.
-fn ask_free(state: &State, packet: &Packet) -> Option<Verdict>
-    ensures { result ≡ asks_named state.now packet.now is_free }
-{
-    let network = named(state, packet)?;
-    if is_free(network) {
-        ask(network, packet)
-    } else {
-        None
-    }
-}
-
-fn ask_bound(state: &State, packet: &Packet) -> Option<Verdict>
-    ensures { result ≡ asks_bound state.now packet.now }
-{
-    let link = packet.outgoing()?;
-    let network = state.networks().network_of(link)?;
-    if may_choose(packet, network) {
-        ask_link(network, link, packet)
-    } else {
-        None
-    }
-}
-
-fn ask_local(state: &State, packet: &Packet) -> Option<Verdict>
-    ensures { result ≡ asks_local state.now packet.now }
-{
-    let network = state.networks().get(LOCAL_ID)?;
-    ask(network, packet)
-}
 
 fn is_loopback(dest: Addr) -> bool
     ensures { result ≡ is_loopback dest }
@@ -129,65 +64,198 @@ fn is_to_device(packet: &Packet) -> bool
     is_loopback(packet.dest()) && may_use_lo(packet.outgoing())
 }
 
-fn root_interface(state: &State, packet: &Packet) -> Option<Verdict>
-    ensures { result ≡ root_interface state.now packet.now }
+fn is_locked_down(state: &State, packet: &Packet) -> bool
+    ensures { result ≡ is_locked_down state.now packet.now }
 {
-    if packet.uid().number == 0 {
-        ask_bound(state, packet)
+    !is_protected(packet) && state.lockdown().holds(packet.uid())
+}
+
+fn root_interface(state: &State, packet: &Packet) -> Option<Verdict>
+    ensures { result ≡ root_interface (by_routes packet.now) state.now packet.now }
+{
+    if is_root(packet) {
+        ask_reached(state, packet)
     } else {
         None
     }
 }
 
-fn is_barred(state: &State, packet: &Packet) -> bool
-    ensures { result ≡ is_barred state.now packet.now }
+fn ask_secure_with_system(state: &State, packet: &Packet) -> Option<Verdict>
+    ensures { result ≡ only_if (asks_named (by_routes packet.now) state.now packet.now
+        (λ n. is_secure n.kind)) (has_system packet.now.mark) }
 {
-    packet.is_made()
-        && !Mark::of_bits(packet.mark()).guarded
-        && state.lockdown().holds(packet.uid())
+    if has_system(packet) {
+        ask_secure_named(state, packet)
+    } else {
+        None
+    }
+}
+
+fn ask_secure_holders(state: &State, packet: &Packet) -> Option<Verdict>
+    ensures { result ≡ only_if (asks_holders (by_routes packet.now) state.now packet.now is_secure)
+        (not (is_protected packet.now.mark)) }
+{
+    if is_protected(packet) {
+        None
+    } else {
+        ask_holders(Holder::Secure, state, packet)
+    }
+}
+
+fn ask_explicit(state: &State, packet: &Packet) -> Option<Verdict>
+    ensures { result ≡ only_if (asks_named (by_routes packet.now) state.now packet.now
+        (may_choose packet.now)) (is_explicit packet.now.mark) }
+{
+    if is_explicit(packet) {
+        ask_choice(state, packet)
+    } else {
+        None
+    }
+}
+
+fn ask_local_implied(state: &State, packet: &Packet) -> Option<Verdict>
+    ensures { result ≡ only_if (asks_local (by_routes packet.now) state.now)
+        (not (is_explicit packet.now.mark)) }
+{
+    if is_explicit(packet) {
+        None
+    } else {
+        ask_local(state, packet)
+    }
+}
+
+fn ask_free_implied(state: &State, packet: &Packet) -> Option<Verdict>
+    ensures { result ≡ only_if (asks_named (by_routes packet.now) state.now packet.now
+        (λ n. is_free n.kind)) (not (is_explicit packet.now.mark)) }
+{
+    if is_explicit(packet) {
+        None
+    } else {
+        ask_free_named(state, packet)
+    }
+}
+
+fn ask_bypass_with_system(state: &State, packet: &Packet) -> Option<Verdict>
+    ensures { result ≡ only_if (asks_named (by_routes packet.now) state.now packet.now
+        (λ n. is_bypass n.kind)) (has_system packet.now.mark) }
+{
+    if has_system(packet) {
+        ask_bypass_named(state, packet)
+    } else {
+        None
+    }
+}
+
+fn ask_bypass_holders(state: &State, packet: &Packet) -> Option<Verdict>
+    ensures { result ≡ only_if (asks_holders (by_routes packet.now) state.now packet.now is_bypass)
+        (not (is_protected packet.now.mark) && not (is_explicit packet.now.mark)) }
+{
+    if is_protected(packet) || is_explicit(packet) {
+        None
+    } else {
+        ask_holders(Holder::Bypass, state, packet)
+    }
+}
+
+fn ask_preferred(state: &State, packet: &Packet) -> Option<Verdict>
+    ensures { result ≡ only_if (asks_holders (by_routes packet.now) state.now packet.now
+        (is_usable packet.now)) (net_of packet.now.mark == 0) }
+{
+    if names_none(packet) {
+        ask_holders(Holder::Preferred, state, packet)
+    } else {
+        None
+    }
+}
+
+// The default network, for what names no network, and in place of a VPN that isn't selected explicitly.
+fn ask_fallback(state: &State, packet: &Packet) -> Option<Verdict>
+    ensures { result ≡ only_if (asks_default (by_routes packet.now) state.now packet.now)
+        ((net_of packet.now.mark == 0)
+        || (names_virtual state.now packet.now && not (is_explicit packet.now.mark))) }
+{
+    if names_none(packet) || names_virtual(state, packet) && !is_explicit(packet) {
+        ask_default(state, packet)
+    } else {
+        None
+    }
+}
+
+fn ask_held(state: &State, packet: &Packet) -> Option<Verdict>
+    ensures { result ≡ first_of (held (by_routes packet.now) state.now packet.now) }
+{
+    ask_secure_with_system(state, packet).or_else(|| ask_secure_holders(state, packet))
 }
 
 fn ask_chosen(state: &State, packet: &Packet) -> Option<Verdict>
-    ensures { result ≡ first_of (chosen state.now packet.now) }
+    ensures { result ≡ first_of (chosen (by_routes packet.now) state.now packet.now) }
 {
-    if is_explicit(packet) {
-        let says = ask_choice(state, packet);
-        if says.is_some() {
-            return says;
-        }
-    }
-    ask_bound(state, packet)
+    ask_explicit(state, packet).or_else(|| ask_bound(state, packet))
 }
 
 fn ask_rest(state: &State, packet: &Packet) -> Option<Verdict>
-    ensures { result ≡ first_of (rest state.now packet.now) }
+    ensures { result ≡ first_of (rest (by_routes packet.now) state.now packet.now) }
 {
-    if is_explicit(packet) {
-        return None;
-    }
-    let says = ask_local(state, packet);
-    if says.is_some() {
-        return says;
-    }
-    ask_free(state, packet)
+    ask_local_implied(state, packet)
+        .or_else(|| ask_free_implied(state, packet))
+        .or_else(|| ask_bypass_with_system(state, packet))
+        .or_else(|| ask_bypass_holders(state, packet))
+        .or_else(|| ask_preferred(state, packet))
+        .or_else(|| ask_fallback(state, packet))
 }
 
 fn decide_made(state: &State, packet: &Packet) -> Verdict
-    ensures { result ≡ policy_made state.now packet.now }
+    requires { is_made packet.now ≡ true }
+    ensures { result ≡ policy_made (by_routes packet.now) state.now packet.now }
 {
     if is_to_device(packet) {
         return Verdict::Local;
     }
-    if let Some(verdict) = root_interface(state, packet) {
+    let answer = root_interface(state, packet).or_else(|| ask_held(state, packet));
+    if let Some(verdict) = answer {
         return verdict;
     }
-    if is_barred(state, packet) {
+    if is_locked_down(state, packet) {
         return Verdict::Prohibited;
     }
-    if let Some(verdict) = ask_chosen(state, packet) {
-        return verdict;
+    ask_chosen(state, packet)
+        .or_else(|| ask_rest(state, packet))
+        .unwrap_or(Verdict::Unreachable)
+}
+
+// What the output of the pair says, where the packet came by its input.
+fn ask_pair(state: &State, packet: &Packet, pair: TetherPair) -> Option<Verdict>
+    ensures { result ≡ asks_pair (by_routes packet.now) state.now packet.now pair }
+{
+    if pair.input != packet.incoming() {
+        return None;
     }
-    ask_rest(state, packet).unwrap_or(Verdict::Unreachable)
+    let network = state.networks().network_of(pair.out)?;
+    ask_link(network, pair.out, packet)
+}
+
+fn ask_pairs(state: &State, packet: &Packet) -> Option<Verdict>
+    ensures { result ≡ first_given (asks_pair (by_routes packet.now) state.now packet.now)
+        state.now.pairs }
+{
+    for pair in state.pairs() {
+        let answer = ask_pair(state, packet, *pair);
+        if answer.is_some() {
+            return answer;
+        }
+    }
+    None
+}
+
+fn decide_passed(state: &State, packet: &Packet) -> Verdict
+    ensures { result ≡ policy_passed (by_routes packet.now) state.now packet.now }
+{
+    if is_loopback(packet.dest()) {
+        return Verdict::Local;
+    }
+    ask_local(state, packet)
+        .or_else(|| ask_pairs(state, packet))
+        .unwrap_or(Verdict::Unreachable)
 }
 
 /// Where the packet is to go. Takes no memory.
@@ -196,10 +264,8 @@ pub fn decide(state: &State, packet: &Packet) -> Verdict
     ensures { result ≡ policy state.now packet.now }
 {
     if packet.is_made() {
-        return decide_made(state, packet);
+        decide_made(state, packet)
+    } else {
+        decide_passed(state, packet)
     }
-    if is_loopback(packet.dest()) {
-        return Verdict::Local;
-    }
-    ask_local(state, packet).unwrap_or(Verdict::Unreachable)
 }

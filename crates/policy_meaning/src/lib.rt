@@ -3,7 +3,10 @@
 
 mod asking;
 mod decision;
+mod holders;
 mod laws;
+mod named;
+mod rights;
 
 pub use decision::decide;
-pub use laws::{barred_stays_in, own_rule_means_start, table_means_policy};
+pub use laws::{barred_stays_in, more_networks_stay_in, own_rule_means_start, table_means_policy};

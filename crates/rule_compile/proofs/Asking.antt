@@ -4,8 +4,10 @@ use Rattle.std.specs.Prelude.{◌⊎◌}
 use Rattle.std.specs.List.{AllByRecursion}
 use Rattle.std.proofs.lemmas.Bool.{cases_Bool, false≢true, false_from_ne_true}
 use Rattle.std.proofs.lemmas.List.{reverse-append, append-nil}
-use Rattle.policy_state.proofs.TableLevels.{table-behind_own}
+use Rattle.policy_state.proofs.Tables.{table-behind_own}
 use Rattle.fib_table.specs.Table.{has_key, has_route}
+use Rattle.networks.specs.Lists.{find_id}
+use Rattle.networks.specs.declared.network.Network.{Network}
 use Rattle.prefixes.specs.Addr.{same_family}
 use Rattle.prefixes.specs.declared.route.Route.{Route}
 use Rattle.prefixes.specs.declared.addr.Family.{Family}
@@ -27,7 +29,7 @@ use Rattle.kernel_model.specs.declared.request.Request.{Request}
 use Rattle.kernel_model.specs.declared.request.Request.TheVariants as req
 use Rattle.list_lemmas.proofs.Alls.{all-append, all-reverse}
 use Rattle.policy_state.specs.Step.{changed, route_of}
-use Rattle.policy_state.specs.Table.{rule_table, link_table}
+use Rattle.policy_state.specs.Table.{rule_table, table_of}
 use Rattle.policy_state.specs.View.{StateView, link_named}
 use Rattle.commands.specs.declared.command.Command.{Command}
 use Rattle.commands.specs.declared.command.Command.TheVariants as command
@@ -128,14 +130,22 @@ one_kind s (command.LinkAdd name index) = rules_alone s (command.LinkAdd name in
 one_kind s (command.LinkRemove name) = rules_alone s (command.LinkRemove name) refl
 one_kind s (command.CreatePhysical net permission) = rules_alone s (command.CreatePhysical net permission) refl
 one_kind s (command.InterfaceAdd net name) = rules_alone s (command.InterfaceAdd net name) refl
-one_kind s (command.RouteAdd net name prefix w) = by (link_named s name) refl
+one_kind s (command.RouteAdd net name prefix w) = by (link_named s name) (find_id net s.networks) refl refl
   where
-    come : (o : Option ℕ) → List (ℕ × Route)
-    come o = elim o as (λ _. List (ℕ × Route)) [ Some i ↦ (link_table i, route_of i prefix w) ∷ [] | None ↦ [] ]
+    come : Option ℕ → Option Network → List (ℕ × Route)
+    come o p = elim o as (λ _. List (ℕ × Route)) [
+      | Some i ↦ elim p as (λ _. List (ℕ × Route)) [ Some n ↦ (table_of n.kind i, route_of i prefix w) ∷ [] | None ↦ [] ]
+      | None ↦ []
+    ]
 
-    by : (o : Option ℕ) → link_named s name ≡ o → AreOfOneKind (asked_adds s (command.RouteAdd net name prefix w))
-    by None is = rules_alone s (command.RouteAdd net name prefix w) (ap come is)
-    by (Some link) is = inr (link_table link, route_of link prefix w, ap (λ (p : PlanView). p.adds) (asked-come s net name prefix w) ∙ ap (λ o. requests_of (come o)) is)
+    come-is : (o : Option ℕ) (p : Option Network) → link_named s name ≡ o → find_id net s.networks ≡ p → routes_come s (command.RouteAdd net name prefix w) ≡ come o p
+    come-is o p is found = ap₂ come is found
+
+    by : (o : Option ℕ) (p : Option Network) → link_named s name ≡ o → find_id net s.networks ≡ p → AreOfOneKind (asked_adds s (command.RouteAdd net name prefix w))
+    by None p is found = rules_alone s (command.RouteAdd net name prefix w) (come-is None p is found)
+    by (Some link) None is found = rules_alone s (command.RouteAdd net name prefix w) (come-is (Some link) None is found)
+    by (Some link) (Some n) is found =
+        inr (table_of n.kind link, route_of link prefix w, ap (λ (p : PlanView). p.adds) (asked-come s net name prefix w) ∙ ap requests_of (come-is (Some link) (Some n) is found))
 one_kind s (command.RouteRemove net name prefix special) = rules_alone s (command.RouteRemove net name prefix special) refl
 one_kind s (command.PermissionNetwork net permission) = rules_alone s (command.PermissionNetwork net permission) refl
 one_kind s (command.LockdownAdd range) = rules_alone s (command.LockdownAdd range) refl
@@ -192,9 +202,9 @@ rules-distinct k s c may =
     let new : List Rule = rule_table (changed s c) in
     let came : List Rule = beyond rule_kind old new in
     let went : List Rule = beyond rule_kind new old in
-    let new_once : HasEachOnce rule_kind new = table-once (changed s c) (good-changed s c may.good may.fits may.accepted) in
+    let new_once : HasEachOnce rule_kind new = table-once (changed s c) (good-changed s c may.good may.fits may.accepted).formed in
     let deletes : Distinct (reverse (twins went) ++ []) =
-    distinct-append (reverse (twins went)) [] (distinct-reversed went (HasEachOnce-filter rule_kind (λ x. not (has rule_kind new x)) old (table-once s may.good))) tt
+    distinct-append (reverse (twins went)) [] (distinct-reversed went (HasEachOnce-filter rule_kind (λ x. not (has rule_kind new x)) old (table-once s may.good.formed))) tt
     (all-reverse (λ q. IsApart q []) (twins went) (all-twins (λ q. IsApart q []) went (λ f x there. tt))) in
     distinct-append (twins came) (reverse (twins went) ++ []) (distinct-twins came (HasEachOnce-filter rule_kind (λ x. not (has rule_kind old x)) new new_once)) deletes
     (all-twins (λ q. IsApart q (reverse (twins went) ++ [])) came (λ f x in_came.

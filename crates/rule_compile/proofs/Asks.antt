@@ -1,19 +1,21 @@
 -- What a command asks: rules, or one route.
-use Rattle.std.proofs.Common.{◌≡◌, ◌==◌, ◌∷◌, [], ◌++◌, ℕ, List, Bool, true, false, not, Some, None, Option, refl, sym, ◌∙◌, ap, ap₂, subst, inl, inr, map, filter, arith}
-use Rattle.std.specs.Prelude.{flat_map, ◌≢◌, if◌then◌else◌}
+use Rattle.std.proofs.Common.{◌≡◌, ◌==◌, ◌∷◌, [], ◌++◌, ℕ, List, Bool, true, false, not, Some, None, Option, refl, sym, ◌∙◌, ap, ap₂, inl, inr, map, arith}
+use Rattle.std.specs.Prelude.{flat_map, ◌≢◌, ◌⊎◌, if◌then◌else◌}
 use Rattle.std.specs.List.{AllByRecursion}
-use Rattle.std.proofs.lemmas.Bool.{not-false}
+use Rattle.std.proofs.lemmas.Bool.{not-false, eqb-true}
 use Rattle.std.proofs.lemmas.List.{append-nil}
 use Rattle.std.proofs.lemmas.Grind.{flat_map-append}
 use Rattle.kernel_model.specs.State.{device_table}
 use Rattle.fib_table.specs.Table as fib
 use Rattle.fib_table.specs.Table.{has_key, has_route, routes_in}
 use Rattle.fwmark.specs.declared.permission.Permission.{Permission}
-use Rattle.networks.specs.Lists.{find_id, are_distinct}
+use Rattle.net_names.specs.declared.code.Code.TheVariants as code
+use Rattle.networks.specs.Lists.{find_id}
 use Rattle.networks.specs.Network.{has_link, routes_by}
-use Rattle.networks.specs.declared.network.Kind.TheVariants as kind
+use Rattle.networks.specs.declared.kind.Kind.{Kind}
+use Rattle.networks.specs.declared.kind.Kind.TheVariants as kind
 use Rattle.networks.specs.declared.network.Network.{Network}
-use Rattle.prefixes.specs.Route.{same_key}
+use Rattle.prefixes.specs.Route.{link_of}
 use Rattle.prefixes.specs.declared.prefix.Prefix.{Prefix}
 use Rattle.prefixes.specs.declared.route.Route.{Route}
 use Rattle.rule_law.specs.Plans.{beyond}
@@ -25,19 +27,21 @@ use Rattle.kernel_model.specs.PlanView.{PlanView}
 use Rattle.kernel_model.specs.Switch.{twins, additions, deletions, requests_of}
 use Rattle.kernel_model.specs.declared.request.Request.{Request}
 use Rattle.kernel_model.specs.declared.request.Request.TheVariants as req
-use Rattle.list_lemmas.proofs.Alls.{all-append_parts, all-from}
-use Rattle.policy_state.specs.Step.{refusal, reasons, changed, with_net, with_link, with_route, without_route, with_permission, route_of, key_of, routes_at}
-use Rattle.policy_state.specs.Table.{rule_table, route_list, link_table, physical_links, routes_of_net}
-use Rattle.policy_state.specs.View.{StateView, IsGood, IsPhysical, link_named}
+use Rattle.policy_state.specs.Good.{IsGood, IsNetwork}
+use Rattle.policy_state.specs.Step.{refusal, reasons, because, has_too_many_rules, changed, with_net, with_link, with_route, without_route, with_permission, asking_for, route_of, key_of, routes_at}
+use Rattle.policy_state.specs.Table.{rule_table, route_list, routes_of_net, table_of}
+use Rattle.policy_state.specs.View.{StateView, link_named}
 use Rattle.commands.specs.declared.command.Command.{Command}
 use Rattle.commands.specs.declared.command.Command.TheVariants as command
 use Rattle.commands.specs.declared.command.Way.{Way}
-use Rattle.policy_state.proofs.Accepted.{none_holds, of_link-at, changed_by_link-at, routes_at-at, Routed, routed}
-use Rattle.policy_state.proofs.Nets.{Standing, standing, all_links, with_change, not_local-linked, is_physical_there}
-use Rattle.policy_state.proofs.PhysicalLinks.{network_at}
-use Rattle.rule_compile.specs.Asked.{routes_come, routes_gone, asked_adds, asked_deletes, asked}
-use Rattle.rule_compile.proofs.RouteTables.{IsNetwork, OneOfKey, one_of_key, table-at, route-comes, route-goes}
-use Rattle.rule_compile.proofs.Turns.{links-kept}
+use Rattle.commands.specs.declared.command.Way.TheVariants as way
+use Rattle.policy_state.proofs.GoodStates.{each-has}
+use Rattle.policy_state.proofs.Owners.{Has, link-has}
+use Rattle.rule_compile.specs.Asked.{of_interface, keyed_in, routes_come, routes_gone, asked_adds, asked_deletes, asked}
+use Rattle.rule_compile.proofs.Accepted.{none_holds, first-parts, of_link-at, changed_by_link-at, routes_at-at, Routed, routed}
+use Rattle.rule_compile.proofs.Defaults.{Found, of_find}
+use Rattle.rule_compile.proofs.RouteTables.{OneOfKey, one_of_key, table-absent, table-has, route-comes, route-goes, keyed-routes}
+use Rattle.rule_compile.proofs.ChangeKinds.{routes-same}
 
 -- the additions and deletions are those of the rules
 pub record AsksRules (s : StateView) (c : Command) : Type 0 where
@@ -83,17 +87,13 @@ no-additions old new same = ap (λ rules. twins (beyond rule_kind old rules)) sa
 no-deletions : (old new : List Rule) (gone : List (ℕ × Route)) → new ≡ old → deletions old new gone ≡ requests_of gone
 no-deletions old new gone same = ap (λ rules. deletions old rules gone) same ∙ rw (beyond-same old) refl
 
-table-same : (s t : StateView) → physical_links t ≡ physical_links s → t.lockdown ≡ s.lockdown → rule_table t ≡ rule_table s
-unfolding rule_table
-table-same s t links lockdown = rw (links, lockdown) refl
-
 -- commands that leave the routes
 
-routes-kept : (net : ℕ) (change : Network → Network) → (ns : List Network) → AllByRecursion (λ n. routes_of_net (change n) ≡ routes_of_net n) ns
-    → flat_map routes_of_net (with_change net change ns) ≡ flat_map routes_of_net ns
-routes-kept net change [] kept = refl
-routes-kept net change (n ∷ ns) kept =
-    ap₂ (λ (one others : List (ℕ × Route)). one ++ others) (by (net == n.id) kept.0) (routes-kept net change ns kept.1)
+routes-kept : (net : ℕ) (change : Network → Network) → ((n : Network) → routes_of_net (change n) ≡ routes_of_net n) → (ns : List Network)
+    → flat_map routes_of_net (map (λ n. if net == n.id then change n else n) ns) ≡ flat_map routes_of_net ns
+routes-kept net change kept [] = refl
+routes-kept net change kept (n ∷ ns) =
+    ap₂ (λ (one others : List (ℕ × Route)). one ++ others) (by (net == n.id) (kept n)) (routes-kept net change kept ns)
   where
     by : (b : Bool) → routes_of_net (change n) ≡ routes_of_net n → routes_of_net (if b then change n else n) ≡ routes_of_net n
     by true same = same
@@ -106,12 +106,13 @@ with_link-routes link n = by (has_link n link)
     by true = refl
     by false = refl
 
-with_permission-routes : (permission : Permission) (n : Network) → IsNetwork n → routes_of_net (with_permission permission n) ≡ routes_of_net n
-with_permission-routes permission n (inl local) = ap (λ m. routes_of_net (with_permission permission m)) local ∙ sym (ap routes_of_net local)
-with_permission-routes permission n (inr physical) = rw physical.kind_is refl
-
-all-networks : (s : StateView) → IsGood s → AllByRecursion IsNetwork s.networks
-all-networks s good = all-from IsNetwork s.networks (λ place n at. network_at s place n good at)
+with_permission-routes : (permission : Permission) (n : Network) → routes_of_net (with_permission permission n) ≡ routes_of_net n
+with_permission-routes permission n = by n.kind
+  where
+    by : (k : Kind) → routes_of_net (record n { kind = asking_for permission k }) ≡ routes_of_net (record n { kind = k })
+    by kind.Local = refl
+    by (kind.Physical old apps) = refl
+    by (kind.Virtual secure users) = refl
 
 only_rules : (s : StateView) (c : Command) → routes_come s c ≡ [] → routes_gone s c ≡ [] → route_list (changed s c) ≡ route_list s → Asks s c
 only_rules s c come gone routes = Rules (record {
@@ -122,124 +123,102 @@ only_rules s c come gone routes = Rules (record {
 
 -- commands that change a route
 
-not_own_table : (link : ℕ) → link_table link ≢ device_table
-not_own_table link same = omega (arith, same)
+not_own_table : (k : Kind) (link : ℕ) → table_of k link ≢ device_table
+not_own_table kind.Local link = λ same. omega (arith, same)
+not_own_table (kind.Physical permission apps) link = λ same. omega (arith, same)
+not_own_table (kind.Virtual secure users) link = λ same. omega (arith, same)
 
--- the network among the others
-record Among (s : StateView) (net link : ℕ) (n : Network) : Type 0 where
-  stands : Standing net s.networks n
-  physical : IsPhysical n
-  distinct : are_distinct (all_links (stands.before ++ n ∷ stands.behind)) ≡ true
-  good_before : AllByRecursion IsNetwork stands.before
-  good_behind : AllByRecursion IsNetwork stands.behind
+-- where a network and its interface are there
+of_interface-at : (s : StateView) (net link : ℕ) (name : List ℕ) (n : Network) (routes : Network → ℕ → List (ℕ × Route)) → link_named s name ≡ Some link → find_id net s.networks ≡ Some n
+    → of_interface s net name routes ≡ routes n link
+of_interface-at s net link name n routes named found =
+    ap (λ (o : Option ℕ). elim o as (λ _. List (ℕ × Route)) [ Some i ↦ elim (find_id net s.networks) as (λ _. List (ℕ × Route)) [ Some m ↦ routes m i | None ↦ [] ] | None ↦ [] ]) named
+    ∙ ap (λ (o : Option Network). elim o as (λ _. List (ℕ × Route)) [ Some m ↦ routes m link | None ↦ [] ]) found
 
-among : (s : StateView) (net link : ℕ) (n : Network) → IsGood s → find_id net s.networks ≡ Some n → has_link n link ≡ true → Among s net link n
-among s net link n good found has =
-    let stands : Standing net s.networks n = standing net s.networks n good.networks.keyed found in
-    let parts = all-append_parts IsNetwork stands.before (n ∷ stands.behind) (subst (AllByRecursion IsNetwork) stands.is (all-networks s good)) in
-    record {
-      stands = stands;
-      physical = is_physical_there s good.networks net n found (not_local-linked s good.networks net n found link has);
-      distinct = ap (λ ns. are_distinct (all_links ns)) (sym stands.is) ∙ good.networks.interfaces_distinct;
-      good_before = parts.0;
-      good_behind = parts.1.1;
-    }
+-- the network of a route's command, with its interface
+record AtInterface (s : StateView) (net link : ℕ) (n : Network) : Type 0 where
+  there : Has s.networks n
+  id : n.id ≡ net
+  has : Has n.interfaces link
 
-module _ (s : StateView) (net link : ℕ) (n : Network) (it : Among s net link n) (has : has_link n link ≡ true) where
-  abbrev before : List Network
-  before = it.stands.before
+at_interface : (s : StateView) (net : ℕ) (name : List ℕ) (at : Routed s net name) → AtInterface s net at.link at.n
+at_interface s net name at =
+    let found : Found (λ (n : Network). net == n.id) s.networks at.n = of_find (λ (n : Network). net == n.id) s.networks at.n at.found in
+    record { there = found.there; id = sym (eqb-true net at.n.id found.passes); has = link-has at.n at.link at.has }
 
-  abbrev behind : List Network
-  behind = it.stands.behind
+out-link : (link : ℕ) (prefix : Prefix) (w : Way) → (link_of (route_of link prefix w).out ≡ None) ⊎ (link_of (route_of link prefix w).out ≡ Some link)
+out-link link prefix way.Direct = inr refl
+out-link link prefix (way.Via gateway) = inr refl
+out-link link prefix way.Unreachable = inl refl
+out-link link prefix way.Throw = inl refl
 
-  -- the table of the interface has its routes
-  table_of_link : routes_in (link_table link) (route_list s) ≡ routes_by link n.routes
-  table_of_link =
-      ap (λ ns. routes_in (link_table link) (flat_map routes_of_net ns)) it.stands.is
-      ∙ table-at before behind n link it.physical has it.distinct it.good_before it.good_behind
+key-link : (link : ℕ) (prefix : Prefix) (special : Bool) → (link_of (key_of link prefix special).out ≡ None) ⊎ (link_of (key_of link prefix special).out ≡ Some link)
+key-link link prefix true = inl refl
+key-link link prefix false = inr refl
 
-  in_tables : (change : Network → Network) (by : List Route → List Route)
-      → ((m : ℕ) → routes_in m (flat_map routes_of_net (before ++ change n ∷ behind))
-      ≡ (if link_table link == m then by (routes_in m (flat_map routes_of_net (before ++ n ∷ behind))) else routes_in m (flat_map routes_of_net (before ++ n ∷ behind))))
-      → (m : ℕ) → routes_in m (route_list (with_net net change s)) ≡ (if link_table link == m then by (routes_in m (route_list s)) else routes_in m (route_list s))
-  in_tables change by turns m =
-      ap (λ ns. routes_in m (flat_map routes_of_net ns)) (it.stands.changes change)
-      ∙ (turns m ∙ ap (λ ns. if link_table link == m then by (routes_in m (flat_map routes_of_net ns)) else routes_in m (flat_map routes_of_net ns)) (sym it.stands.is))
-
-  comes_in : (route : Route) (m : ℕ) → routes_in m (route_list (with_net net (with_route link route) s))
-      ≡ (if link_table link == m then routes_in m (route_list s) ++ route ∷ [] else routes_in m (route_list s))
-  comes_in route = in_tables (with_route link route) (λ rs. rs ++ route ∷ [])
-      (route-comes before behind n link it.physical has it.distinct it.good_before it.good_behind route)
-
-  goes_from : (key : Route) (one : OneOfKey (routes_by link n.routes) key) (m : ℕ) → routes_in m (route_list (with_net net (without_route link key) s))
-      ≡ (if link_table link == m then fib.without_route (routes_in m (route_list s)) one.route else routes_in m (route_list s))
-  goes_from key one = in_tables (without_route link key) (λ rs. fib.without_route rs one.route)
-      (route-goes before behind n link it.physical has it.distinct it.good_before it.good_behind key one)
+-- none of the reasons against an accepted command holds
+unrefused : (s : StateView) (c : Command) → refusal s c ≡ None → AllByRecursion (λ r. r.holds ≡ false) (reasons s c)
+unrefused s c accepted = none_holds (reasons s c) (first-parts (reasons s c) (because code.NoSpace (has_too_many_rules s c)) accepted).0
 
 route_comes : (s : StateView) (net : ℕ) (name : List ℕ) (prefix : Prefix) (w : Way) → IsGood s → refusal s (command.RouteAdd net name prefix w) ≡ None → AsksOne s (command.RouteAdd net name prefix w)
 route_comes s net name prefix w good accepted =
-    let facts = none_holds (reasons s (command.RouteAdd net name prefix w)) accepted in
+    let facts = unrefused s (command.RouteAdd net name prefix w) accepted in
     let at : Routed s net name = routed s net name facts.0 facts.1.1.0 in
-    let link : ℕ = at.link in
-    let n : Network = at.n in
-    let it : Among s net link n = among s net link n good at.found at.has in
-    let absent : has_key (routes_at s net link) (route_of link prefix w) ≡ false =
-    sym (of_link-at s name (λ i. has_key (routes_at s net i) (route_of i prefix w)) link at.named) ∙ facts.1.1.1.1.0 in
-    by at.n at.link it at.has (routes_at-at s net n at.found link) at.named absent
+    let absent : has_key (routes_at s net at.link) (route_of at.link prefix w) ≡ false =
+    sym (of_link-at s name (λ i. has_key (routes_at s net i) (route_of i prefix w)) at.link at.named) ∙ facts.1.1.1.1.0 in
+    by at.n at.link at.named at.found (at_interface s net name at) (ap (λ rs. has_key rs (route_of at.link prefix w)) (sym (routes_at-at s net at.n at.found at.link)) ∙ absent)
   where
-    by : (n : Network) (link : ℕ) (it : Among s net link n) → has_link n link ≡ true → routes_at s net link ≡ routes_by link n.routes → link_named s name ≡ Some link
-        → has_key (routes_at s net link) (route_of link prefix w) ≡ false → AsksOne s (command.RouteAdd net name prefix w)
-    by n link it linked routes named absent =
+    by : (n : Network) (link : ℕ) → link_named s name ≡ Some link → find_id net s.networks ≡ Some n → AtInterface s net link n
+        → has_key (routes_by link n.routes) (route_of link prefix w) ≡ false → AsksOne s (command.RouteAdd net name prefix w)
+    by n link named found it absent =
         let route : Route = route_of link prefix w in
         let become : changed s (command.RouteAdd net name prefix w) ≡ with_net net (with_route link route) s =
         changed_by_link-at s name (λ i. with_net net (with_route i (route_of i prefix w))) link named in
-        let come : routes_come s (command.RouteAdd net name prefix w) ≡ (link_table link, route) ∷ [] =
-        ap (λ (o : Option ℕ). elim o as (λ _. List (ℕ × Route)) [ Some i ↦ (link_table i, route_of i prefix w) ∷ [] | None ↦ [] ]) named in
+        let come : routes_come s (command.RouteAdd net name prefix w) ≡ (table_of n.kind link, route) ∷ [] =
+        of_interface-at s net link name n (λ n link. (table_of n.kind link, route_of link prefix w) ∷ []) named found in
         let same : rule_table (changed s (command.RouteAdd net name prefix w)) ≡ rule_table s =
-        ap rule_table become ∙ table-same s (with_net net (with_route link route) s) (links-kept net (with_route link route) (λ m. refl) s.networks) refl in
+        ap rule_table become ∙ routes-same s net (λ n. (with_route link route n).routes) in
         record {
-          table = link_table link;
+          table = table_of n.kind link;
           route = route;
           adds = ap₂ (λ (rules routes : List Request). rules ++ routes) (no-additions (rule_table s) (rule_table (changed s (command.RouteAdd net name prefix w))) same) (ap requests_of come);
           deletes = no-deletions (rule_table s) (rule_table (changed s (command.RouteAdd net name prefix w))) [] same;
           rules = same;
-          not_own = not_own_table link;
-          absent = ap (λ rs. has_key rs route) (table_of_link s net link n it linked ∙ sym routes) ∙ absent;
-          routes = λ m. ap (λ t. routes_in m (route_list t)) become ∙ comes_in s net link n it linked route m;
+          not_own = not_own_table n.kind link;
+          absent = table-absent s good.formed net link n it.there it.id it.has route (out-link link prefix w) absent;
+          routes = λ m. ap (λ t. routes_in m (route_list t)) become ∙ route-comes s good.formed net link n it.there it.id it.has route m;
         }
 
 route_goes : (s : StateView) (net : ℕ) (name : List ℕ) (prefix : Prefix) (special : Bool) → IsGood s → refusal s (command.RouteRemove net name prefix special) ≡ None → GivesUpOne s (command.RouteRemove net name prefix special)
 route_goes s net name prefix special good accepted =
-    let facts = none_holds (reasons s (command.RouteRemove net name prefix special)) accepted in
+    let facts = unrefused s (command.RouteRemove net name prefix special) accepted in
     let at : Routed s net name = routed s net name facts.0 facts.1.1.0 in
-    let link : ℕ = at.link in
-    let n : Network = at.n in
-    let it : Among s net link n = among s net link n good at.found at.has in
-    let there : has_key (routes_at s net link) (key_of link prefix special) ≡ true =
-    not-false _ (sym (of_link-at s name (λ i. not (has_key (routes_at s net i) (key_of i prefix special))) link at.named) ∙ facts.1.1.1.0) in
-    by at.n at.link it at.has (routes_at-at s net n at.found link) at.named there
+    let there : has_key (routes_at s net at.link) (key_of at.link prefix special) ≡ true =
+    not-false _ (sym (of_link-at s name (λ i. not (has_key (routes_at s net i) (key_of i prefix special))) at.link at.named) ∙ facts.1.1.1.0) in
+    by at.n at.link at.named at.found (at_interface s net name at) (ap (λ rs. has_key rs (key_of at.link prefix special)) (sym (routes_at-at s net at.n at.found at.link)) ∙ there)
   where
-    by : (n : Network) (link : ℕ) (it : Among s net link n) → has_link n link ≡ true → routes_at s net link ≡ routes_by link n.routes → link_named s name ≡ Some link
-        → has_key (routes_at s net link) (key_of link prefix special) ≡ true → GivesUpOne s (command.RouteRemove net name prefix special)
-    by n link it linked routes named there =
+    by : (n : Network) (link : ℕ) → link_named s name ≡ Some link → find_id net s.networks ≡ Some n → AtInterface s net link n
+        → has_key (routes_by link n.routes) (key_of link prefix special) ≡ true → GivesUpOne s (command.RouteRemove net name prefix special)
+    by n link named found it there =
         let key : Route = key_of link prefix special in
-        let one : OneOfKey (routes_by link n.routes) key = one_of_key (routes_by link n.routes) key (it.physical.keys_distinct link) (ap (λ rs. has_key rs key) (sym routes) ∙ there) in
+        let net_is : IsNetwork n = each-has IsNetwork s.networks n good.formed.networks.each it.there in
+        let one : OneOfKey (routes_by link n.routes) key = one_of_key (routes_by link n.routes) key (net_is.keys_distinct link) there in
         let become : changed s (command.RouteRemove net name prefix special) ≡ with_net net (without_route link key) s =
         changed_by_link-at s name (λ i. with_net net (without_route i (key_of i prefix special))) link named in
-        let gone : routes_gone s (command.RouteRemove net name prefix special) ≡ (link_table link, one.route) ∷ [] =
-        ap (λ (o : Option ℕ). elim o as (λ _. List (ℕ × Route)) [ Some i ↦ map (λ r. (link_table i, r)) (filter (λ r. same_key r (key_of i prefix special)) (routes_at s net i)) | None ↦ [] ]) named
-        ∙ (ap (λ rs. map (λ (r : Route). (link_table link, r)) (filter (λ r. same_key r key) rs)) routes ∙ ap (map (λ (r : Route). (link_table link, r))) one.alone) in
+        let gone : routes_gone s (command.RouteRemove net name prefix special) ≡ (table_of n.kind link, one.route) ∷ [] =
+        of_interface-at s net link name n (λ n link. keyed_in n link (key_of link prefix special)) named found
+        ∙ (keyed-routes n link key ∙ ap (map {B = ℕ × Route} (λ (r : Route). (table_of n.kind link, r))) one.alone) in
         let same : rule_table (changed s (command.RouteRemove net name prefix special)) ≡ rule_table s =
-        ap rule_table become ∙ table-same s (with_net net (without_route link key) s) (links-kept net (without_route link key) (λ m. refl) s.networks) refl in
+        ap rule_table become ∙ routes-same s net (λ n. (without_route link key n).routes) in
         record {
-          table = link_table link;
+          table = table_of n.kind link;
           route = one.route;
           adds = append-nil _ ∙ no-additions (rule_table s) (rule_table (changed s (command.RouteRemove net name prefix special))) same;
           deletes = no-deletions (rule_table s) (rule_table (changed s (command.RouteRemove net name prefix special))) (routes_gone s (command.RouteRemove net name prefix special)) same ∙ ap requests_of gone;
           rules = same;
-          not_own = not_own_table link;
-          there = ap (λ rs. has_route rs one.route) (table_of_link s net link n it linked) ∙ one.there;
-          routes = λ m. ap (λ t. routes_in m (route_list t)) become ∙ goes_from s net link n it linked key one m;
+          not_own = not_own_table n.kind link;
+          there = table-has s good.formed net link n it.there it.id it.has key (key-link link prefix special) one;
+          routes = λ m. ap (λ t. routes_in m (route_list t)) become ∙ route-goes s good.formed net link n it.there it.id it.has key (key-link link prefix special) one m;
         }
 
 pub asks : (s : StateView) (c : Command) → IsGood s → refusal s c ≡ None → Asks s c
@@ -247,18 +226,17 @@ asks s (command.LinkAdd name index) good accepted = only_rules s (command.LinkAd
 asks s (command.LinkRemove name) good accepted = only_rules s (command.LinkRemove name) refl refl refl
 asks s (command.CreatePhysical net permission) good accepted =
     only_rules s (command.CreatePhysical net permission) refl refl
-    (flat_map-append routes_of_net s.networks (record { id = net; kind = kind.Physical permission; interfaces = []; routes = [] } ∷ []) ∙ append-nil (flat_map routes_of_net s.networks))
+    (flat_map-append routes_of_net s.networks (record { id = net; kind = kind.Physical permission []; interfaces = []; routes = [] } ∷ []) ∙ append-nil (flat_map routes_of_net s.networks))
 asks s (command.InterfaceAdd net name) good accepted = only_rules s (command.InterfaceAdd net name) refl refl (by (link_named s name))
   where
     by : (o : Option ℕ) → route_list (elim o as (λ _. StateView) [ Some link ↦ with_net net (with_link link) s | None ↦ s ]) ≡ route_list s
-    by (Some link) = routes-kept net (with_link link) s.networks (all-from (λ n. routes_of_net (with_link link n) ≡ routes_of_net n) s.networks (λ place n at. with_link-routes link n))
+    by (Some link) = routes-kept net (with_link link) (with_link-routes link) s.networks
     by None = refl
 asks s (command.RouteAdd net name prefix w) good accepted = Comes (route_comes s net name prefix w good accepted)
 asks s (command.RouteRemove net name prefix special) good accepted = Goes (route_goes s net name prefix special good accepted)
 asks s (command.PermissionNetwork net permission) good accepted =
     only_rules s (command.PermissionNetwork net permission) refl refl
-    (routes-kept net (with_permission permission) s.networks (all-from (λ n. routes_of_net (with_permission permission n) ≡ routes_of_net n) s.networks
-    (λ place n at. with_permission-routes permission n (network_at s place n good at))))
+    (routes-kept net (with_permission permission) (with_permission-routes permission) s.networks)
 asks s (command.LockdownAdd range) good accepted = only_rules s (command.LockdownAdd range) refl refl refl
 asks s (command.LockdownRemove range) good accepted = only_rules s (command.LockdownRemove range) refl refl refl
 
@@ -268,16 +246,14 @@ route_add-table : (s : StateView) (net : ℕ) (name : List ℕ) (prefix : Prefix
 route_add-table s net name prefix w = by (link_named s name)
   where
     by : (o : Option ℕ) → rule_table (elim o as (λ _. StateView) [ Some link ↦ with_net net (with_route link (route_of link prefix w)) s | None ↦ s ]) ≡ rule_table s
-    by (Some link) =
-        table-same s (with_net net (with_route link (route_of link prefix w)) s) (links-kept net (with_route link (route_of link prefix w)) (λ m. refl) s.networks) refl
+    by (Some link) = routes-same s net (λ n. (with_route link (route_of link prefix w) n).routes)
     by None = refl
 
 route_remove-table : (s : StateView) (net : ℕ) (name : List ℕ) (prefix : Prefix) (special : Bool) → rule_table (changed s (command.RouteRemove net name prefix special)) ≡ rule_table s
 route_remove-table s net name prefix special = by (link_named s name)
   where
     by : (o : Option ℕ) → rule_table (elim o as (λ _. StateView) [ Some link ↦ with_net net (without_route link (key_of link prefix special)) s | None ↦ s ]) ≡ rule_table s
-    by (Some link) =
-        table-same s (with_net net (without_route link (key_of link prefix special)) s) (links-kept net (without_route link (key_of link prefix special)) (λ m. refl) s.networks) refl
+    by (Some link) = routes-same s net (λ n. (without_route link (key_of link prefix special) n).routes)
     by None = refl
 
 pub same_plan : (adds deletes more less : List Request) → adds ≡ more → deletes ≡ less → ◌≡◌ {A = PlanView} (record { adds = adds; deletes = deletes }) (record { adds = more; deletes = less })

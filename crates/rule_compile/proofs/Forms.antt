@@ -1,10 +1,8 @@
 -- What is asked is well formed, since each rule and each route of a good state is.
-use Rattle.std.proofs.Common.{◌≡◌, ◌≤◌, ◌==◌, ◌∷◌, [], ◌++◌, ℕ, List, Some, None, true, refl, sym, ◌∙◌, ap, subst, inl, inr, map, filter, reverse, slice_get, arith}
-use Rattle.std.specs.List.{list_any, AllByRecursion}
-use Rattle.std.specs.Option.{option_map}
-use Rattle.std.proofs.lemmas.Bool.{cases_Bool, false≢true}
-use Rattle.std.proofs.lemmas.Option.{slice_get-map}
-use Rattle.list_lemmas.proofs.Numbers.{all-among, eqb-refl}
+use Rattle.std.proofs.Common.{◌≡◌, ◌≤◌, ◌==◌, ◌∷◌, [], ◌++◌, ℕ, List, Some, None, true, refl, sym, ◌∙◌, subst, inl, inr, reverse, nat_le, arith}
+use Rattle.std.specs.List.{AllByRecursion}
+use Rattle.std.proofs.lemmas.Bool.{cases_Bool, false≢true, leb-true}
+use Rattle.list_lemmas.proofs.Numbers.{eqb-refl}
 use Rattle.fib_table.specs.Table.{has_route, routes_in}
 use Rattle.networks.specs.Network.{has_link}
 use Rattle.networks.specs.declared.network.LinkRoute.{LinkRoute}
@@ -21,51 +19,23 @@ use Rattle.kernel_model.specs.Form.{IsWellFormedRule, LeadsWell, IsWellFormedRou
 use Rattle.rule_kinds.specs.Kind.{rule_kind}
 use Rattle.kernel_model.specs.Switch.{twins, additions, deletions}
 use Rattle.kernel_model.specs.declared.request.Request.{Request}
-use Rattle.list_lemmas.proofs.Alls.{all-append, all-append_parts, all-reverse, all-at, all-flat, all-from, all-mapped, all-part}
+use Rattle.list_lemmas.proofs.Alls.{all-append, all-append_parts, all-reverse, all-at, all-flat, all-from, all-mapped}
+use Rattle.policy_state.specs.Good.{IsGood, IsNetwork, LeadsOut}
 use Rattle.policy_state.specs.Step.{changed}
-use Rattle.policy_state.specs.Table.{PhysicalLink, physical_links, is_free, Level, RootInterface, Lockdown, Explicit, BoundInterface, LocalNetwork, Implicit, Last, rules_at, rule_table, route_list, routes_of_net, table_of, root_interface_rule, lockdown_rule, explicit_rule, explicit_local_rule, bound_rule, local_rule, implicit_rule, last_rule}
-use Rattle.policy_state.specs.View.{StateView, IsGood, IsPhysical, LeadsOut}
+use Rattle.policy_state.specs.Table.{rule_table, route_list, routes_of_net, table_of}
+use Rattle.policy_state.specs.View.{StateView}
 use Rattle.commands.specs.declared.command.Command.{Command}
-use Rattle.policy_state.proofs.Levels.{AtLevel, InRow, in_row, in_row_or_last, is_among, is_only, table-level}
-use Rattle.policy_state.proofs.PhysicalLinks.{links-are, network_at}
+use Rattle.policy_state.proofs.AlikeRules.{all-has}
+use Rattle.policy_state.proofs.GoodStates.{has-links}
+use Rattle.policy_state.proofs.Owners.{link-has}
+use Rattle.policy_state.proofs.Tables.{table-is}
 use Rattle.rule_compile.specs.Asked.{asked_adds, asked_deletes}
 use Rattle.rule_compile.proofs.Asking.{all-twins, is_beyond}
 use Rattle.rule_compile.proofs.Asks.{Asks, Rules, Comes, Goes}
-
--- the rules of a table
-
-not_link_zero : (link : ℕ) → 2 ≤ link → (Some link ≡ Some 0) → ⊥
-not_link_zero link two is = let zero_is : link ≡ 0 = cc in omega (arith, two, zero_is)
-
--- an interface isn't link 0
-link_two : (s : StateView) (place : ℕ) (l : PhysicalLink) → IsGood s → slice_get (physical_links s) place ≡ Some l → 2 ≤ l.link
-link_two s place l good at =
-    (all-at (λ i. (2 ≤ i) × (list_any (λ k. k.index == i) s.links ≡ true)) (map (λ (k : PhysicalLink). k.link) (physical_links s)) place l.link
-    (subst (AllByRecursion (λ i. (2 ≤ i) × (list_any (λ k. k.index == i) s.links ≡ true))) (sym (links-are s good)) good.networks.interfaces_are_links)
-    (slice_get-map (λ (k : PhysicalLink). k.link) (physical_links s) place ∙ ap (option_map (λ (k : PhysicalLink). k.link)) at)).0
-
-level-formed : (s : StateView) (level : Level) (x : Rule) → IsGood s → is_among (rules_at s level) x ≡ true → IsWellFormedRule x
-level-formed s RootInterface x good h =
-    let at : InRow root_interface_rule (physical_links s) x = in_row root_interface_rule (physical_links s) x h in
-    subst IsWellFormedRule (sym at.rule) (record { value = λ e. e; incoming = λ e. cc; outgoing = not_link_zero at.item.link (link_two s at.place at.item good at.at) })
-level-formed s Lockdown x good h =
-    let at = in_row lockdown_rule s.lockdown x h in
-    subst IsWellFormedRule (sym at.rule) (record { value = λ e. refl; incoming = λ e. cc; outgoing = λ e. cc })
-level-formed s Explicit x good h = elim (in_row_or_last explicit_rule (physical_links s) explicit_local_rule x h) [
-  | inl at ↦ subst IsWellFormedRule (sym at.rule) (record { value = λ e. absurd (omega (arith, e)); incoming = λ e. cc; outgoing = λ e. cc })
-  | inr only ↦ subst IsWellFormedRule (sym only) (record { value = λ e. absurd cc; incoming = λ e. cc; outgoing = λ e. cc })
-]
-level-formed s BoundInterface x good h =
-    let at : InRow bound_rule (physical_links s) x = in_row bound_rule (physical_links s) x h in
-    subst IsWellFormedRule (sym at.rule) (record { value = λ e. e; incoming = λ e. cc; outgoing = not_link_zero at.item.link (link_two s at.place at.item good at.at) })
-level-formed s LocalNetwork x good h = subst IsWellFormedRule (sym (is_only local_rule x h)) (record { value = λ e. refl; incoming = λ e. cc; outgoing = λ e. cc })
-level-formed s Implicit x good h =
-    let at = in_row implicit_rule (filter is_free (physical_links s)) x h in
-    subst IsWellFormedRule (sym at.rule) (record { value = λ e. absurd cc; incoming = λ e. cc; outgoing = λ e. cc })
-level-formed s Last x good h = subst IsWellFormedRule (sym (is_only last_rule x h)) (record { value = λ e. refl; incoming = λ e. cc; outgoing = λ e. cc })
+use Rattle.rule_compile.proofs.Formed.{table-formed}
 
 rule-formed : (s : StateView) (x : Rule) → IsGood s → has rule_kind (rule_table s) x ≡ true → IsWellFormedRule x
-rule-formed s x good h = let at : AtLevel s x = table-level s x h in level-formed s at.level x good at.at
+rule-formed s x good h = table-formed s (has-links s good.formed) x (subst (λ (rules : List Rule). has rule_kind rules x ≡ true) (table-is s) h)
 
 -- the routes of a state
 
@@ -81,27 +51,23 @@ leads_well r two leads = by r.route.out refl
 abbrev IsWellRouted : ℕ × Route → Type 0
 IsWellRouted r = IsWellFormedRoute r.1
 
-net-formed : (s : StateView) (place : ℕ) (n : Network) → IsGood s → slice_get s.networks place ≡ Some n → IsPhysical n → AllByRecursion IsWellRouted (routes_of_net n)
-net-formed s place n good at physical =
+net-formed : (n : Network) → IsNetwork n → AllByRecursion IsWellRouted (routes_of_net n)
+net-formed n good =
     all-mapped IsWellRouted (λ (r : LinkRoute). (table_of n.kind r.link, r.route)) n.routes
     (all-from (λ (r : LinkRoute). IsWellFormedRoute r.route) n.routes (λ i r there.
-    let belongs = all-at (λ r. (has_link n r.link ≡ true) × LeadsOut r) n.routes i r physical.routes_belong there in
-    leads_well r (all-among (λ i. (2 ≤ i) × (list_any (λ l. l.index == i) s.links ≡ true)) n.interfaces r.link belongs.0
-    (all-part (λ i. (2 ≤ i) × (list_any (λ l. l.index == i) s.links ≡ true)) (λ (n : Network). n.interfaces) s.networks place n good.networks.interfaces_are_links at)).0 belongs.1))
+    let belongs = all-at (λ r. (has_link n r.link ≡ true) × LeadsOut r) n.routes i r good.routes_belong there in
+    leads_well r (leb-true 2 r.link (all-has (nat_le 2) n.interfaces r.link good.interfaces_above (link-has n r.link belongs.0))) belongs.1))
 
 routes-formed : (s : StateView) → IsGood s → AllByRecursion IsWellRouted (route_list s)
 routes-formed s good =
     all-flat IsWellRouted routes_of_net s.networks (all-from (λ n. AllByRecursion IsWellRouted (routes_of_net n)) s.networks (λ place n at.
-    elim (network_at s place n good at) [
-      | inl local ↦ subst (λ n. AllByRecursion IsWellRouted (routes_of_net n)) (sym local) tt
-      | inr physical ↦ net-formed s place n good at physical
-    ]))
+    net-formed n (all-at IsNetwork s.networks place n good.formed.networks.each at)))
 
-table-formed : (n : ℕ) (routes : List (ℕ × Route)) → AllByRecursion IsWellRouted routes → AllByRecursion IsWellFormedRoute (routes_in n routes)
-table-formed n [] h = tt
-table-formed n (r ∷ rs) h = elim (cases_Bool (r.0 == n)) [
-  | inl here ↦ rw here (h.0, table-formed n rs h.1)
-  | inr other ↦ rw other (table-formed n rs h.1)
+numbered-formed : (n : ℕ) (routes : List (ℕ × Route)) → AllByRecursion IsWellRouted routes → AllByRecursion IsWellFormedRoute (routes_in n routes)
+numbered-formed n [] h = tt
+numbered-formed n (r ∷ rs) h = elim (cases_Bool (r.0 == n)) [
+  | inl here ↦ rw here (h.0, numbered-formed n rs h.1)
+  | inr other ↦ rw other (numbered-formed n rs h.1)
 ]
 
 route-formed : (routes : List Route) (r : Route) → has_route routes r ≡ true → AllByRecursion IsWellFormedRoute routes → IsWellFormedRoute r
@@ -130,7 +96,7 @@ adds-formed s c good after (Rules it) = subst AreAllFormed (sym it.adds) (additi
 adds-formed s c good after (Comes it) =
     let here : routes_in it.table (route_list (changed s c)) ≡ routes_in it.table (route_list s) ++ it.route ∷ [] = it.routes it.table ∙ rw (eqb-refl it.table) refl in
     let all : AllByRecursion IsWellFormedRoute (routes_in it.table (route_list s) ++ it.route ∷ []) =
-    subst (AllByRecursion IsWellFormedRoute) here (table-formed it.table (route_list (changed s c)) (routes-formed (changed s c) after)) in
+    subst (AllByRecursion IsWellFormedRoute) here (numbered-formed it.table (route_list (changed s c)) (routes-formed (changed s c) after)) in
     subst AreAllFormed (sym it.adds) ((all-append_parts IsWellFormedRoute (routes_in it.table (route_list s)) (it.route ∷ []) all).1.0, tt)
 adds-formed s c good after (Goes it) = subst AreAllFormed (sym it.adds) tt
 
@@ -138,4 +104,4 @@ pub deletes-formed : (s : StateView) (c : Command) → IsGood s → Asks s c →
 deletes-formed s c good (Rules it) = subst AreAllFormed (sym it.deletes) (deletions-formed s (changed s c) good)
 deletes-formed s c good (Comes it) = subst AreAllFormed (sym it.deletes) tt
 deletes-formed s c good (Goes it) =
-    subst AreAllFormed (sym it.deletes) (route-formed (routes_in it.table (route_list s)) it.route it.there (table-formed it.table (route_list s) (routes-formed s good)), tt)
+    subst AreAllFormed (sym it.deletes) (route-formed (routes_in it.table (route_list s)) it.route it.there (numbered-formed it.table (route_list s) (routes-formed s good)), tt)

@@ -1,13 +1,22 @@
-pub mod Middles
-pub mod Twins
-pub mod Rows
-pub mod LinkRows
-pub mod Turns
-pub mod RouteTables
-pub mod Levels
-pub mod Tables
-pub mod Asks
-pub mod Asking
-pub mod Forms
-pub mod Along
-pub mod Starting
+mod Accepted
+mod RuleLists
+mod Middles
+mod Changes
+mod Turning
+mod Growing
+mod Comes
+mod Needs
+mod Shrinking
+mod Defaults
+mod Formed
+mod ChangeKinds
+mod Steps
+mod RouteTables
+mod Asks
+mod Tables
+mod Twins
+mod Asking
+mod Along
+mod Forms
+mod Starting
+mod Levelled

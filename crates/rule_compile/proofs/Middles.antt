@@ -9,7 +9,7 @@ use Rattle.rule_law.proofs.Membership.{filter-none, filter-same, has_append}
 use Rattle.rule_match.specs.declared.rule.Rule.{Rule}
 use Rattle.rule_kinds.specs.Kind.{rule_kind}
 use Rattle.rule_compile.specs.Middles.{AreMiddles}
-use Rattle.rule_compile.proofs.Rows.{once-apart, once-behind}
+use Rattle.rule_compile.proofs.RuleLists.{once-apart, once-behind}
 
 has-front : (xs ys : List Rule) (x : Rule) → has rule_kind xs x ≡ true → has rule_kind (xs ++ ys) x ≡ true
 has-front xs ys x h = has_append rule_kind x xs ys ∙ rw h refl

@@ -1,7 +1,7 @@
 -- The start: from the kernel's own rule alone to the table of the first state.
 use Rattle.std.proofs.Common.{◌≡◌, ◌≢◌, ◌==◌, ◌∷◌, [], ℕ, refl, sym, inl, inr}
 use Rattle.std.proofs.lemmas.Bool.{cases_Bool, eqb-true}
-use Rattle.policy_state.proofs.TableLevels.{table-rises, table-behind_own}
+use Rattle.policy_state.proofs.Tables.{table-rises, table-behind_own}
 use Rattle.prefixes.specs.declared.addr.Family.{Family}
 use Rattle.prefixes.specs.declared.addr.Family.TheVariants as family
 use Rattle.rule_law.specs.Rules as law
@@ -13,7 +13,7 @@ use Rattle.kernel_model.specs.Stands.{Stands}
 use Rattle.kernel_model.specs.Switch.{IsSwitch}
 use Rattle.policy_state.specs.Table.{rule_table}
 use Rattle.policy_state.specs.View.{start}
-use Rattle.policy_state.proofs.Goodness.{good-start}
+use Rattle.policy_state.proofs.FirstState.{good-start}
 use Rattle.rule_compile.proofs.Tables.{table-once}
 
 own-stands : (f : Family) → law.Stands rule_kind (rules_of kernel_start f) (own_rule ∷ [])
@@ -36,7 +36,7 @@ nothing_before = record {
   old_rises = tt;
   new_rises = table-rises start;
   old_once = tt;
-  new_once = table-once start good-start;
+  new_once = table-once start good-start.formed;
   same_order = λ rule. refl;
   new_behind = λ rule. refl;
 }

@@ -1,59 +1,56 @@
 -- The tables of a state before and after a command are as the two-lists law asks.
-use Rattle.std.proofs.Common.{◌≡◌, ◌∷◌, [], List, None}
-use Rattle.policy_state.proofs.TableLevels.{levels_show, levels_distinct, table-rises, table-behind_own}
+use Rattle.std.proofs.Common.{◌≡◌, [], List, None, subst, sym}
 use Rattle.rule_law.specs.Rules.{HasEachOnce, GiversAreAlike}
 use Rattle.rule_law.specs.Plans.{AreOldAndNew}
-use Rattle.rule_law.specs.Parts.{TurnsInto, EachPart}
-use Rattle.rule_law.proofs.Keys.{HasEachOnce-joined, TurnsInto-joined}
 use Rattle.rule_law.proofs.Turning.{TurnsInto-conditions}
 use Rattle.rule_match.specs.declared.packet.Packet.{Packet}
+use Rattle.rule_match.specs.declared.rule.Rule.{Rule}
 use Rattle.rule_kinds.specs.Kind.{rule_kind}
-use Rattle.rule_kinds.specs.KindLaws.{alike_priority}
 use Rattle.kernel_model.specs.State.{KernelState, NumberedTable}
 use Rattle.kernel_model.specs.Switch.{IsSwitch}
 use Rattle.kernel_model.specs.Walk.{rule_gives}
 use Rattle.kernel_model.proofs.Levels.{givers-alike}
-use Rattle.policy_state.specs.View.{StateView, IsGood}
+use Rattle.policy_state.specs.Good.{IsGood, IsWellFormed}
 use Rattle.policy_state.specs.Step.{FitsTypes, refusal, changed}
-use Rattle.policy_state.specs.Table.{Level, levels, priority_of, rules_at, rule_table}
+use Rattle.policy_state.specs.Table.{table_by_rows, rule_table}
+use Rattle.policy_state.specs.View.{StateView}
 use Rattle.commands.specs.declared.command.Command.{Command}
-use Rattle.policy_state.proofs.Goodness.{good-changed}
-use Rattle.policy_state.proofs.Levels.{table-alike}
+use Rattle.policy_state.proofs.AlikeRules as alike
+use Rattle.policy_state.proofs.EachOnce as once
+use Rattle.policy_state.proofs.GoodStates.{is-good, are-once}
+use Rattle.policy_state.proofs.Owners.{owners_of}
+use Rattle.policy_state.proofs.Tables.{table-is, table-rises, table-behind_own}
 use Rattle.rule_compile.specs.Asked.{MayStep}
-use Rattle.rule_compile.proofs.Levels.{level-once, level-turns}
+use Rattle.policy_state.proofs.Goodness.{good-changed}
+use Rattle.rule_compile.proofs.ChangeKinds.{TableTurns}
+use Rattle.rule_compile.proofs.Steps.{step-turns}
 
--- what holds of each level holds of each in a list of levels
-each : (P : Level → Type 0) → ((level : Level) → P level) → (some : List Level) → EachPart P some
-each P h [] = tt
-each P h (level ∷ rest) = (h level, each P h rest)
+pub table-once : (s : StateView) → IsWellFormed s → HasEachOnce rule_kind (rule_table s)
+table-once s good = subst (HasEachOnce rule_kind) (sym (table-is s)) (once.table-once (owners_of s) s (is-good s good) (are-once s good))
 
-pub table-once : (s : StateView) → IsGood s → HasEachOnce rule_kind (rule_table s)
-unfolding rule_table
-table-once s good =
-    HasEachOnce-joined rule_kind priority_of rule_kind.priority (rules_at s) levels (levels_show s) levels_distinct (each (λ level. HasEachOnce rule_kind (rules_at s level)) (level-once s good) levels)
-
-table-turns : (s : StateView) (command : Command) → IsGood s → FitsTypes command → refusal s command ≡ None → TurnsInto rule_kind (rule_table s) (rule_table (changed s command))
-unfolding rule_table
-table-turns s command good fits accepted =
-    TurnsInto-joined rule_kind priority_of rule_kind.priority alike_priority (rules_at s) (rules_at (changed s command)) levels
-    (levels_show s) (levels_show (changed s command)) levels_distinct
-    (each (λ level. TurnsInto rule_kind (rules_at s level) (rules_at (changed s command) level)) (level-turns s command good fits accepted) levels)
-
-pub tables-old_and_new : (s : StateView) (command : Command) → IsGood s → FitsTypes command → refusal s command ≡ None → AreOldAndNew rule_kind (rule_table s) (rule_table (changed s command))
-tables-old_and_new s command good fits accepted =
-    let order = TurnsInto-conditions rule_kind (rule_table s) (rule_table (changed s command)) (table-turns s command good fits accepted) in
+-- any two states, the table of one of which turns into that of the other
+pub tables-lawful : (s t : StateView) → IsWellFormed s → IsWellFormed t → TableTurns s t → AreOldAndNew rule_kind (rule_table s) (rule_table t)
+tables-lawful s t good good' turns =
+    let order = TurnsInto-conditions rule_kind (rule_table s) (rule_table t) turns in
     record {
       old_rises = table-rises s;
-      new_rises = table-rises (changed s command);
+      new_rises = table-rises t;
       old_once = table-once s good;
-      new_once = table-once (changed s command) (good-changed s command good fits accepted);
+      new_once = table-once t good';
       same_order = order.0;
       new_behind = order.1;
     }
 
+pub tables-old_and_new : (s : StateView) (command : Command) → IsGood s → FitsTypes command → refusal s command ≡ None → AreOldAndNew rule_kind (rule_table s) (rule_table (changed s command))
+tables-old_and_new s command good fits accepted =
+    let after : IsGood (changed s command) = good-changed s command good fits accepted in
+    tables-lawful s (changed s command) good.formed after.formed (step-turns s command good.formed after.formed)
+
 -- two rules of a table that have equal priority and give a packet something have equal selectors
 pub table-givers : (s : StateView) (tables : List NumberedTable) (p : Packet) → IsGood s → GiversAreAlike rule_kind (rule_gives tables p) (rule_table s)
-table-givers s tables p good = givers-alike (rule_table s) tables p (λ x y. table-alike s p x y good)
+table-givers s tables p good =
+    subst (λ (rules : List Rule). GiversAreAlike rule_kind (rule_gives tables p) rules) (sym (table-is s))
+    (givers-alike (table_by_rows s) tables p (λ x y in_x in_y same m n. alike.table-alike (owners_of s) s (is-good s good.formed) p x y in_x in_y m n same))
 
 pub is_switch : (k : KernelState) (s : StateView) (command : Command) → MayStep k s command → IsSwitch k (rule_table s) (rule_table (changed s command)) []
 is_switch k s command may = record {

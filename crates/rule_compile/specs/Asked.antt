@@ -1,5 +1,8 @@
 -- What a kernel is asked in order to be brought from one state's rules to another's.
 use Rattle.std.specs.Prelude.{◌≡◌, ℕ, List, [], ◌∷◌, ◌++◌, map, filter, None, Some}
+use Rattle.networks.specs.Lists.{find_id}
+use Rattle.networks.specs.Network.{is_keyed_by}
+use Rattle.networks.specs.declared.network.Network.{Network}
 use Rattle.prefixes.specs.declared.route.Route.{Route}
 use Rattle.kernel_model.specs.PlanView.{PlanView}
 use Rattle.kernel_model.specs.Stands.{Stands}
@@ -8,27 +11,32 @@ use Rattle.kernel_model.specs.Journal.{replay_from}
 use Rattle.kernel_model.specs.Segment.{done}
 use Rattle.kernel_model.specs.Switch.{additions, deletions, requests_of, switched}
 use Rattle.kernel_model.specs.declared.request.Request.{Request}
-use Rattle.policy_state.specs.Step.{FitsTypes, refusal, changed, route_of, key_of, routes_at}
-use Rattle.policy_state.specs.Table.{rule_table, route_list, link_table}
-use Rattle.policy_state.specs.View.{StateView, IsGood, start, link_named}
+use Rattle.policy_state.specs.Step.{FitsTypes, refusal, changed, route_of, key_of}
+use Rattle.policy_state.specs.Good.{IsGood}
+use Rattle.policy_state.specs.Table.{rule_table, route_list, table_of}
+use Rattle.policy_state.specs.View.{StateView, start, link_named}
 use Rattle.commands.specs.declared.command.Command.{Command}
 use Rattle.commands.specs.declared.command.Command.TheVariants as command
-use Rattle.prefixes.specs.Route.{same_key}
+
+-- what a network and its interface of this name give, where both are there
+abbrev pub of_interface : StateView → ℕ → List ℕ → (Network → ℕ → List (ℕ × Route)) → List (ℕ × Route)
+of_interface s net name routes = elim (link_named s name) [
+  | Some link ↦ elim (find_id net s.networks) [ Some n ↦ routes n link | None ↦ [] ]
+  | None ↦ []
+]
+
+-- the routes that belong to the link and have the key, with the number of their network's table
+abbrev pub keyed_in : Network → ℕ → Route → List (ℕ × Route)
+keyed_in n link key = map (λ r. (table_of n.kind link, r.route)) (filter (λ r. is_keyed_by link key r) n.routes)
 
 -- the route that a command adds, with the number of its table
 abbrev pub routes_come : StateView → Command → List (ℕ × Route)
-routes_come s (command.RouteAdd net name prefix way) = elim (link_named s name) [
-  | Some link ↦ (link_table link, route_of link prefix way) ∷ []
-  | None ↦ []
-]
+routes_come s (command.RouteAdd net name prefix way) = of_interface s net name (λ n link. (table_of n.kind link, route_of link prefix way) ∷ [])
 routes_come s _ = []
 
 -- the route that a command takes out, with the number of its table
 abbrev pub routes_gone : StateView → Command → List (ℕ × Route)
-routes_gone s (command.RouteRemove net name prefix special) = elim (link_named s name) [
-  | Some link ↦ map (λ r. (link_table link, r)) (filter (λ r. same_key r (key_of link prefix special)) (routes_at s net link))
-  | None ↦ []
-]
+routes_gone s (command.RouteRemove net name prefix special) = of_interface s net name (λ n link. keyed_in n link (key_of link prefix special))
 routes_gone s _ = []
 
 -- the rules that the new table has and the old one lacks, in the order of the new one, each for IPv4 and then for IPv6; or the route that comes

@@ -1,3 +1,2 @@
 pub mod Middles
-pub mod Rows
 pub mod Asked

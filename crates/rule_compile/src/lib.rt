@@ -4,13 +4,14 @@
 
 mod difference;
 mod laws;
-mod link_rules;
 mod requests;
 mod routes;
+mod rows;
+mod rule;
 mod start;
 mod table;
 
 pub use laws::{plan_ends, plan_law, requests_can_be_asked, start_law, tables_are_lawful};
 pub use requests::plan;
 pub use start::start_plan;
-pub use table::{rule_count, rules};
+pub use table::rules;

@@ -55,12 +55,12 @@ pub fn plan(alloc: Global, old: &State, new: &State, command: &Command) -> Resul
 {
     match command {
         Command::RouteAdd {
+            net,
             name,
             prefix,
             way,
-            ..
         } => {
-            let adds = route_that_comes(alloc, old, name, *prefix, *way)?;
+            let adds = route_that_comes(alloc, old, *net, name, *prefix, *way)?;
             Ok(Plan::of(adds, Vec::new(alloc)))
         }
         Command::RouteRemove {

@@ -1,62 +1,61 @@
 //! The route that a command adds or takes out, as a request.
-ghost use Rattle.std.specs.Prelude.{◌≡◌, ℕ, IfOk};
+ghost use Rattle.std.specs.Prelude.{◌≡◌, IfOk};
 ghost use Rattle.kernel_model.specs.Switch.{requests_of};
-ghost use Rattle.kernel_model.specs.declared.request.Request.TheVariants as req;
-ghost use Rattle.policy_state.specs.Table.{link_table};
 ghost use Rattle.commands.specs.declared.command.Command.TheVariants.{RouteAdd, RouteRemove};
-ghost use Rattle.rule_compile.specs.Asked.{routes_come, routes_gone};
-ghost use Rattle.rule_compile.specs.Rows.{keyed_by};
+ghost use Rattle.rule_compile.specs.Asked.{keyed_in, routes_come, routes_gone};
 
-use crate::link_rules::link_table;
+use crate::rule::table_of;
 use kernel_model::Request;
 use net_names::Name;
-use networks::LinkRoute;
+use networks::Network;
 use policy_state::{State, Way, key_of, route_of};
 use prefixes::{Prefix, Route};
 use std::alloc::{AllocError, Global};
 
-/// What asks for a route in the table of the link.
-fn request_for(link: u16, route: Route) -> Request
-    ensures { result ≡ req.Route (link_table link) route }
-{
-    Request::Route {
-        table: link_table(link),
-        route,
-    }
-}
-
-/// What asks for the route that a command adds, with the table of the link of this name.
+/// What asks for the route that a command adds, with the table of its network's interface.
 pub(crate) fn route_that_comes(
     alloc: Global,
     state: &State,
+    net: u16,
     name: &Name,
     prefix: Prefix,
     way: Way,
 ) -> Result<Vec<Request>, AllocError>
-    ensures { (net : ℕ) → IfOk result (λ requests.
-        requests.items ≡ requests_of (routes_come state.now (RouteAdd net name.now prefix way))) }
+    ensures { IfOk result (λ requests. requests.items ≡
+        requests_of (routes_come state.now (RouteAdd net name.now prefix way))) }
 {
     let mut requests = Vec::new(alloc);
-    if let Some(link) = state.link_named(name) {
-        requests.push(request_for(link, route_of(link, prefix, way)))?;
-    }
+    let Some(link) = state.link_named(name) else {
+        return Ok(requests);
+    };
+    let Some(network) = state.networks().get(net) else {
+        return Ok(requests);
+    };
+    requests.push(Request::Route {
+        table: table_of(&network.kind, link),
+        route: route_of(link, prefix, way),
+    })?;
     Ok(requests)
 }
 
-/// What asks for those of the routes that belong to the link and have the key.
+/// What asks for those of the network's routes that belong to the link and have the key.
 fn requests_by(
     alloc: Global,
-    routes: &[LinkRoute],
+    network: &Network,
     link: u16,
     key: &Route,
 ) -> Result<Vec<Request>, AllocError>
     ensures { IfOk result (λ requests. requests.items ≡
-        requests_of (keyed_by link key.now routes.now)) }
+        requests_of (keyed_in network.now link key.now)) }
 {
+    let table = table_of(&network.kind, link);
     let mut requests = Vec::new(alloc);
-    for route in routes {
+    for route in network.routes.as_slice() {
         if route.is_keyed_by(link, key) {
-            requests.push(request_for(link, route.route))?;
+            requests.push(Request::Route {
+                table,
+                route: route.route,
+            })?;
         }
     }
     Ok(requests)
@@ -80,6 +79,5 @@ pub(crate) fn route_that_goes(
     let Some(network) = state.networks().get(net) else {
         return Ok(Vec::new(alloc));
     };
-    let key = key_of(link, prefix, special);
-    requests_by(alloc, network.routes.as_slice(), link, &key)
+    requests_by(alloc, network, link, &key_of(link, prefix, special))
 }

@@ -1,90 +1,83 @@
-ghost use Rattle.std.specs.Prelude.{◌≡◌, ◌∷◌, [], ◌++◌, length, map, IfOk, OnOk};
+//! The whole table: row by row, and in a row with ranks rank by rank.
+ghost use Rattle.std.specs.Prelude.{◌≡◌, ◌==◌, ◌≤◌, ◌++◌, filter, flat_map, IfOk, OnOk};
+ghost use Rattle.std.specs.Option.{option_copied};
 ghost use Rattle.rule_kinds.specs.Kind.{rule_kind};
 ghost use Rattle.rule_law.specs.Rules.{HasEachOnce};
-ghost use Rattle.policy_state.specs.Table.{lockdown_rule, explicit_local_rule, local_rule, last_rule, rule_table};
+ghost use Rattle.policy_state.specs.Good.{IsGood};
+ghost use Rattle.policy_state.specs.Rows.{default_of, numbers_from};
+ghost use Rattle.policy_state.specs.Table.{in_order, rules_in, rule_table};
 
-use crate::link_rules::{EXPLICIT, EXPLICIT_PRIORITY, Row, SELECTION, add_row, count_for};
-use networks::LOCAL_ID;
-use policy_state::State;
-use rule_match::{Action, LOOPBACK, Rule};
+use crate::rows::push_row;
+use networks::Network;
+use policy_state::{ROWS, Row, State, default_network};
+use rule_match::Rule;
 use std::alloc::{AllocError, Global};
-use uid_ranges::{RangeList, UidRange};
 
-/// The table of the local network.
-const LOCAL_TABLE: u32 = 97;
+/// How many ranks there are.
+const RANKS: u32 = 100;
 
-/// The bit of a mark that keeps a packet from VPNs and from lockdown.
-const PROTECTED: u32 = 0x20000;
-
-const LOCKDOWN_PRIORITY: u32 = 12500;
-
-const LOCAL_PRIORITY: u32 = 17000;
-
-const LAST_PRIORITY: u32 = 32000;
-
-fn lockdown_rule(range: UidRange) -> Rule
-    ensures { result ≡ lockdown_rule range }
+/// Appends those of the rules that have the priority.
+fn push_at(rules: &mut Vec<Rule>, priority: u32, made: &[Rule]) -> Result<(), AllocError>
+    ensures { IfOk result (λ _. rules.new.items ≡ rules.old.items ++
+        filter (λ rule. rule.priority == priority) made.now) }
 {
-    Rule {
-        priority: LOCKDOWN_PRIORITY,
-        mark: 0,
-        mask: PROTECTED,
-        incoming: Some(LOOPBACK),
-        outgoing: None,
-        uids: Some(range),
-        action: Action::Prohibit,
-    }
-}
-
-fn explicit_local_rule() -> Rule
-    ensures { result ≡ explicit_local_rule }
-{
-    Rule {
-        priority: EXPLICIT_PRIORITY,
-        mark: EXPLICIT + u32::from(LOCAL_ID),
-        mask: SELECTION,
-        incoming: Some(LOOPBACK),
-        outgoing: None,
-        uids: None,
-        action: Action::Table(LOCAL_TABLE),
-    }
-}
-
-fn local_rule() -> Rule
-    ensures { result ≡ local_rule }
-{
-    Rule {
-        priority: LOCAL_PRIORITY,
-        mark: 0,
-        mask: EXPLICIT,
-        incoming: None,
-        outgoing: None,
-        uids: None,
-        action: Action::Table(LOCAL_TABLE),
-    }
-}
-
-fn last_rule() -> Rule
-    ensures { result ≡ last_rule }
-{
-    Rule {
-        priority: LAST_PRIORITY,
-        mark: 0,
-        mask: 0,
-        incoming: None,
-        outgoing: None,
-        uids: None,
-        action: Action::Unreachable,
-    }
-}
-
-fn add_lockdown_rules(rules: &mut Vec<Rule>, ranges: &RangeList) -> Result<(), AllocError>
-    ensures { IfOk result (λ _. rules.new.items ≡ rules.old.items ++ map lockdown_rule ranges.now) }
-{
-    for place in 0..ranges.len() {
-        if let Some(range) = ranges.at(place) {
-            rules.push(lockdown_rule(range))?;
+    for rule in made {
+        if rule.priority == priority {
+            rules.push(*rule)?;
         }
+    }
+    Ok(())
+}
+
+/// Appends those of the rules that have one of a hundred priorities, those of the lowest first.
+fn push_by_rank(rules: &mut Vec<Rule>, base: u32, made: &[Rule]) -> Result<(), AllocError>
+    requires few { base ≤ 0xffff }
+    ensures { IfOk result (λ _. rules.new.items ≡ rules.old.items ++
+        flat_map (λ priority. filter (λ rule. rule.priority == priority) made.now)
+        (numbers_from base 100)) }
+{
+    for rank in 0..RANKS {
+        push_at(rules, base + rank, made)?;
+    }
+    Ok(())
+}
+
+/// Appends the rules of a row in order of priority.
+fn push_in_order(
+    alloc: Global,
+    rules: &mut Vec<Rule>,
+    row: &Row,
+    state: &State,
+    home: Option<&Network>,
+) -> Result<(), AllocError>
+    requires good { IsGood state.now }
+    requires home { option_copied home ≡ default_of state.now }
+    ensures { IfOk result (λ _. rules.new.items ≡ rules.old.items ++
+        in_order rule_kind (rules_in state.now row.now)) }
+{
+    if row.ranked {
+        let mut made = Vec::new(alloc);
+        push_row(&mut made, row, state, home)?;
+        push_by_rank(rules, u32::from(row.base), &made)
+    } else {
+        push_row(rules, row, state, home)
+    }
+}
+
+fn push_rows(
+    alloc: Global,
+    rules: &mut Vec<Rule>,
+    rows: &[Row],
+    state: &State,
+    home: Option<&Network>,
+) -> Result<(), AllocError>
+    requires good { IsGood state.now }
+    requires home { option_copied home ≡ default_of state.now }
+    ensures { IfOk result (λ _. rules.new.items ≡ rules.old.items ++
+        flat_map (λ row. in_order rule_kind (rules_in state.now row)) rows.now) }
+{
+    for row in rows {
+        push_in_order(alloc, rules, row, state, home)?;
     }
     Ok(())
 }
@@ -96,29 +89,8 @@ pub fn rules(alloc: Global, state: &State) -> Result<Vec<Rule>, AllocError>
     // no rule stands twice
     ensures once { OnOk result (HasEachOnce rule_kind (rule_table state.now)) }
 {
-    let networks = state.networks();
+    let home = default_network(state.networks(), state.default_net());
     let mut rules = Vec::new(alloc);
-    add_row(&mut rules, Row::RootInterface, networks)?;
-    add_lockdown_rules(&mut rules, state.lockdown())?;
-    add_row(&mut rules, Row::Explicit, networks)?;
-    rules.push(explicit_local_rule())?;
-    add_row(&mut rules, Row::BoundInterface, networks)?;
-    rules.push(local_rule())?;
-    add_row(&mut rules, Row::Implicit, networks)?;
-    rules.push(last_rule())?;
+    push_rows(alloc, &mut rules, &ROWS, state, home)?;
     Ok(rules)
-}
-
-/// How many rules these are. Takes no memory.
-pub fn rule_count(state: &State) -> u64
-    ensures { result ≡ length (rule_table state.now) }
-{
-    let networks = state.networks();
-    let mut count = state.lockdown().len() as u64 + 3;
-    for place in 0..networks.len() {
-        if let Some(network) = networks.at(place) {
-            count += count_for(network);
-        }
-    }
-    count
 }

@@ -3,7 +3,7 @@ use Rattle.std.proofs.lemmas.Bool.{false≢true}
 use Rattle.kernel_model.specs.State.{start as kernel_start}
 use Rattle.policy_state.specs.Table.{rule_table}
 use Rattle.policy_state.specs.View.{start}
-use Rattle.policy_state.proofs.Goodness.{good-start}
+use Rattle.policy_state.proofs.FirstState.{good-start}
 use Rattle.rule_compile.proofs.Starting.{start-is_switch, start-stands}
 use Rattle.rule_compile.proofs.Tables.{table-givers}
 use Rattle.rule_compile.proofs.laws.start_law.Goals as goal

@@ -5,7 +5,7 @@ use Rattle.rule_compile.proofs.requests.plan.Goals as goal
 
 pub returns-in_ok-adds-in-RouteAdd : goal.returns-in_ok-adds-in-RouteAdd
 returns-in_ok-adds-in-RouteAdd c =
-    c.of.ensures ∙ (same_plan _ _ _ _ (c.in_ok-adds-in-RouteAdd.ensures c.in-RouteAdd.net) c.new.ensures.items
+    c.of.ensures ∙ (same_plan _ _ _ _ c.in_ok-adds-in-RouteAdd.ensures c.new.ensures.items
     ∙ (sym (asked-come c.args.old.now c.in-RouteAdd.net c.in-RouteAdd.name c.in-RouteAdd.prefix c.in-RouteAdd.way) ∙ ap (asked c.args.old.now) (sym c.in-RouteAdd.is)))
 
 pub returns-in_ok-deletes-in-RouteRemove : goal.returns-in_ok-deletes-in-RouteRemove

@@ -14,7 +14,7 @@ use Rattle.rule_compile.specs.Asked.{MayStep, carried}
 use Rattle.net_control.proofs.Bounding.{keeps_limit}
 use Rattle.net_control.proofs.Causing.{has_cause}
 use Rattle.net_control.proofs.Forming.{keeps_form}
-use Rattle.net_control.proofs.Policed.{accepted, answered, by_policy, locked, sends}
+use Rattle.net_control.proofs.Policed.{accepted, answered, by_policy, good_or_same, locked, sends}
 use Rattle.net_control.proofs.controller.Controller.apply.Goals as goal
 
 pub returns-clause-sends : goal.returns-clause-sends
@@ -43,8 +43,17 @@ returns-clause-moments g c running =
 
 pub returns-clause-locked : goal.returns-clause-locked
 returns-clause-locked g c running =
-    locked (g.K.Kernel.seen c.args.kernel.now) (g.K.Kernel.seen c.answer.new.kernel) c.args.self.now.state (changed c.args.self.now.state c.args.command.now)
-    (λ s packet. c.barred_stays_in.ensures s packet) (returns-clause-moments g c running)
+    let before = g.K.Kernel.seen c.args.kernel.now in
+    let old = c.args.self.now in
+    let command = c.args.command.now in
+    locked before (g.K.Kernel.seen c.answer.new.kernel) old.state (changed old.state command)
+    (λ s packet. c.barred_stays_in.ensures s packet)
+    (λ ns ms v h. (c.more_networks_stay_in.ensures.after ns ms v h, c.more_networks_stay_in.ensures.before ns ms v h))
+    c.requires.good
+    (good_or_same c.answer.result command old c.answer.new.self before (g.K.Kernel.seen c.answer.new.kernel)
+    (λ taken. good-changed old.state command c.requires.good c.fits_types.ensures (accepted old before command taken)) c.answer.ensures.answer)
+    (λ packet. c.table_means_policy.ensures old.state (state_of before) packet c.requires.good (c.requires.stands running))
+    (returns-clause-moments g c running)
 
 pub returns-clause-formed : goal.returns-clause-formed
 returns-clause-formed g c =

@@ -1,0 +1,150 @@
+// The networks that a packet names or is bound to, and the two that stand by.
+ghost use Rattle.std.specs.Prelude.{◌≡◌};
+ghost use Rattle.std.specs.Option.{option_copied};
+ghost use Rattle.fwmark.specs.Mark.{net_of};
+ghost use Rattle.networks.specs.Kinds.{is_free, is_secure, is_bypass};
+ghost use Rattle.networks.specs.Lists.{find_id};
+ghost use Rattle.policy_meaning.specs.Policy.{
+  by_routes,
+  may_reach,
+  may_bind,
+  may_choose,
+  asks_named,
+  asks_bound,
+  asks_local,
+  asks_default,
+  names_virtual,
+};
+ghost use Rattle.policy_state.specs.Rows.{default_of};
+
+use crate::asking::{ask, ask_link};
+use crate::rights::{may_bind, may_choose, may_reach, may_use};
+use fwmark::Mark;
+use networks::{LOCAL_ID, Network};
+use policy_state::State;
+use rule_match::{Packet, Verdict};
+
+// The network that the mark names.
+fn named<'a>(state: &'a State, packet: &Packet) -> Option<&'a Network>
+    ensures { option_copied result ≡ find_id (net_of packet.now.mark) state.now.networks }
+{
+    state.networks().get(Mark::of_bits(packet.mark()).net)
+}
+
+/// Whether the mark names a VPN.
+pub fn names_virtual(state: &State, packet: &Packet) -> bool
+    ensures { result ≡ names_virtual state.now packet.now }
+{
+    match named(state, packet) {
+        Some(network) => network.kind.is_virtual(),
+        None => false,
+    }
+}
+
+// The default network.
+fn default_network(state: &State) -> Option<&Network>
+    ensures { option_copied result ≡ default_of state.now }
+{
+    let id = state.default_net()?;
+    state.networks().get(id)
+}
+
+/// What the secure VPN says that the mark names.
+pub fn ask_secure_named(state: &State, packet: &Packet) -> Option<Verdict>
+    ensures { result ≡ asks_named (by_routes packet.now) state.now packet.now
+        (λ n. is_secure n.kind) }
+{
+    let network = named(state, packet)?;
+    if network.kind.is_secure() {
+        ask(network, packet)
+    } else {
+        None
+    }
+}
+
+/// What the network says that the mark names, where it asks for no permission.
+pub fn ask_free_named(state: &State, packet: &Packet) -> Option<Verdict>
+    ensures { result ≡ asks_named (by_routes packet.now) state.now packet.now
+        (λ n. is_free n.kind) }
+{
+    let network = named(state, packet)?;
+    if network.kind.is_free() {
+        ask(network, packet)
+    } else {
+        None
+    }
+}
+
+/// What the bypassable VPN says that the mark names.
+pub fn ask_bypass_named(state: &State, packet: &Packet) -> Option<Verdict>
+    ensures { result ≡ asks_named (by_routes packet.now) state.now packet.now
+        (λ n. is_bypass n.kind) }
+{
+    let network = named(state, packet)?;
+    if network.kind.is_bypass() {
+        ask(network, packet)
+    } else {
+        None
+    }
+}
+
+/// What the network says that the mark names, where the packet may choose it.
+pub fn ask_choice(state: &State, packet: &Packet) -> Option<Verdict>
+    ensures { result ≡ asks_named (by_routes packet.now) state.now packet.now
+        (may_choose packet.now) }
+{
+    let network = named(state, packet)?;
+    if may_choose(packet, network) {
+        ask(network, packet)
+    } else {
+        None
+    }
+}
+
+/// What the interface says to which root is bound, where it may reach it.
+pub fn ask_reached(state: &State, packet: &Packet) -> Option<Verdict>
+    ensures { result ≡ asks_bound (by_routes packet.now) state.now packet.now
+        (may_reach packet.now) }
+{
+    let link = packet.outgoing()?;
+    let network = state.networks().network_of(link)?;
+    if may_reach(packet, network) {
+        ask_link(network, link, packet)
+    } else {
+        None
+    }
+}
+
+/// What the interface says to which the packet is bound, where it may go by it.
+pub fn ask_bound(state: &State, packet: &Packet) -> Option<Verdict>
+    ensures { result ≡ asks_bound (by_routes packet.now) state.now packet.now
+        (may_bind packet.now) }
+{
+    let link = packet.outgoing()?;
+    let network = state.networks().network_of(link)?;
+    if may_bind(packet, network) {
+        ask_link(network, link, packet)
+    } else {
+        None
+    }
+}
+
+/// What the local network says.
+pub fn ask_local(state: &State, packet: &Packet) -> Option<Verdict>
+    ensures { result ≡ asks_local (by_routes packet.now) state.now }
+{
+    let network = state.networks().get(LOCAL_ID)?;
+    ask(network, packet)
+}
+
+/// What the default network says, where the packet may use it.
+pub fn ask_default(state: &State, packet: &Packet) -> Option<Verdict>
+    ensures { result ≡ asks_default (by_routes packet.now) state.now packet.now }
+{
+    let network = default_network(state)?;
+    if may_use(packet, &network.kind) {
+        ask(network, packet)
+    } else {
+        None
+    }
+}
