@@ -28,8 +28,6 @@ use Rattle.policy_meaning.proofs.Levels.{pair_says, comes_from, from_virtual, ro
 use Rattle.policy_meaning.proofs.RankLevels.{secure-level, bypass-level, app-level}
 use Rattle.rule_match.specs.declared.verdict.Verdict.TheVariants as verdict
 
--- The walk of a table asks its rows in turn.
-
 pub walk-rows : {V : Type 0} (g : Rule → Option V) (none : V) (f : Row → List Rule) (some : List Row) → walk g none (flat_map f some) ≡ first_answer none (map (λ row. first_given g (f row)) some)
 walk-rows g none f [] = refl
 walk-rows g none f (row ∷ rest) = walk-given g none (f row) (flat_map f rest) ∙ ap (unwrap_or (first_given g (f row))) (walk-rows g none f rest)

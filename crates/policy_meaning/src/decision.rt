@@ -168,7 +168,8 @@ fn ask_preferred(state: &State, packet: &Packet) -> Option<Verdict>
     }
 }
 
-// The default network, for what names no network, and in place of a VPN that isn't selected explicitly.
+// The default network, for what names no network, and in place of a VPN that isn't selected
+// explicitly.
 fn ask_fallback(state: &State, packet: &Packet) -> Option<Verdict>
     ensures { result ≡ only_if (asks_default (by_routes packet.now) state.now packet.now)
         ((net_of packet.now.mark == 0)
