@@ -38,7 +38,7 @@ use Rattle.commands.specs.declared.command.Way.TheVariants as way
 use Rattle.policy_state.proofs.GoodStates.{each-has}
 use Rattle.policy_state.proofs.Owners.{Has, link-has}
 use Rattle.rule_compile.specs.Asked.{of_interface, keyed_in, routes_come, routes_gone, asked_adds, asked_deletes, asked}
-use Rattle.rule_compile.proofs.Accepted.{none_holds, first-parts, of_link-at, changed_by_link-at, routes_at-at, Routed, routed}
+use Rattle.policy_state.proofs.Accepted.{none_holds, first-parts, of_link-at, changed_by_link-at, routes_at-at, Routed, routed}
 use Rattle.rule_compile.proofs.Defaults.{Found, of_find}
 use Rattle.rule_compile.proofs.RouteTables.{OneOfKey, one_of_key, table-absent, table-has, route-comes, route-goes, keyed-routes}
 use Rattle.rule_compile.proofs.ChangeKinds.{routes-same}

@@ -1,4 +1,3 @@
-mod Accepted
 mod RuleLists
 mod Middles
 mod Changes
