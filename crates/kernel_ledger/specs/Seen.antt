@@ -12,6 +12,10 @@ use Rattle.kernel_ledger.specs.declared.ledger.Ledger.{Ledger}
 abbrev pub seen_by : Ledger → KernelView
 seen_by l = record { journal = l.journal.items; lists = option_map lists_of l.lists; watching = [] }
 
+-- for how many entries it has room
+abbrev pub spare_of : Ledger → ℕ
+spare_of l = l.spare
+
 -- an empty journal, and these lists
 abbrev pub starting : Option Lists → KernelView
 starting lists = record { journal = []; lists = lists; watching = [] }

@@ -57,12 +57,12 @@ fn log(journal: &mut Vec<Entry>, kind: EntryKind, request: Request)
 }
 
 impl Ledger {
-    ghost use Rattle.kernel_ledger.specs.Seen.{seen_by, starting};
+    ghost use Rattle.kernel_ledger.specs.Seen.{seen_by, spare_of, starting};
 
     /// An empty journal, no lists, and no room.
     pub fn new(alloc: Global) -> Ledger
         ensures seen { seen_by result ≡ starting None }
-        ensures spare { result.spare ≡ 0 }
+        ensures spare { spare_of result ≡ 0 }
     {
         Ledger {
             journal: Vec::new(alloc),
@@ -75,10 +75,10 @@ impl Ledger {
 
     /// From now on additions and deletions fail by these lists.
     pub fn arm(&mut self, refuse: Vec<u64>, breaks: Vec<u64>)
-        requires { self.old.journal.items ≡ [] }
+        requires { (seen_by self.old).journal ≡ [] }
         ensures seen { seen_by self.new ≡ record (seen_by self.old)
             { lists = Some (record { refuse = refuse.items; breaks = breaks.items }) } }
-        ensures spare { self.new.spare ≡ self.old.spare }
+        ensures spare { spare_of self.new ≡ spare_of self.old }
     {
         self.lists = Some(FailLists { refuse, breaks });
     }
@@ -86,8 +86,8 @@ impl Ledger {
     /// Makes room for this number of entries at least.
     pub fn reserve(&mut self, more: u64) -> Result<(), AllocError>
         ensures seen { seen_by self.new ≡ seen_by self.old }
-        ensures ok { OnOk result (self.new.spare ≡ max self.old.spare more) }
-        ensures err { OnErr result (self.new.spare ≡ self.old.spare) }
+        ensures ok { OnOk result (spare_of self.new ≡ max (spare_of self.old) more) }
+        ensures err { OnErr result (spare_of self.new ≡ spare_of self.old) }
     {
         if more > self.spare {
             self.journal.reserve(more as usize)?;
@@ -98,7 +98,8 @@ impl Ledger {
 
     /// Whether the lists say that the next addition, or the next deletion, fails.
     pub fn fails_next(&self, addition: bool) -> bool
-        ensures { result ≡ fails_next (seen_by self.now).lists self.now.journal.items addition }
+        ensures { result ≡
+            fails_next (seen_by self.now).lists (seen_by self.now).journal addition }
     {
         match &self.lists {
             None => false,
@@ -110,14 +111,16 @@ impl Ledger {
         }
     }
 
-    /// Writes down what became of a request, in the room that is there: where there are lists, what they say.
+    /// Writes down what became of a request, in the room that is there: where there are lists, what they say. A kernel
+    /// that fails by what it holds keeps no lists, and writes by itself.
     pub fn write(&mut self, kind: EntryKind, request: Request)
         requires may { IsTrue (may_stand (state_of (seen_by self.old)) kind request) }
         requires listed { IsSome (seen_by self.old).lists → fails kind ≡
-            fails_next (seen_by self.old).lists self.old.journal.items (asks_addition kind) }
-        requires spare { 0 < self.old.spare }
+            fails_next (seen_by self.old).lists (seen_by self.old).journal
+            (asks_addition kind) }
+        requires spare { 0 < spare_of self.old }
         ensures grown { seen_by self.new ≡ grown (seen_by self.old) (entry kind request ∷ []) }
-        ensures spare { self.new.spare ≡ self.old.spare - 1 }
+        ensures spare { spare_of self.new ≡ spare_of self.old - 1 }
     {
         self.spare -= 1;
         log(&mut self.journal, kind, request);
@@ -131,10 +134,10 @@ impl Ledger {
     /// Asks for an addition, which is refused where the lists say so.
     pub fn ask_addition(&mut self, request: Request) -> Result<(), KernelFault>
         requires absent { IsTrue (is_absent (state_of (seen_by self.old)) request) }
-        requires spare { 0 < self.old.spare }
+        requires spare { 0 < spare_of self.old }
         ensures grown { seen_by self.new ≡ grown (seen_by self.old)
             (entry (if is_ok result then Added else Refused) request ∷ []) }
-        ensures spare { self.new.spare ≡ self.old.spare - 1 }
+        ensures spare { spare_of self.new ≡ spare_of self.old - 1 }
     {
         if self.fails_next(true) {
             self.write(EntryKind::Refused, request);
@@ -147,10 +150,10 @@ impl Ledger {
     /// Asks for a deletion, which breaks where the lists say so.
     pub fn ask_deletion(&mut self, request: Request) -> Result<(), KernelFault>
         requires present { IsTrue (is_present (state_of (seen_by self.old)) request) }
-        requires spare { 0 < self.old.spare }
+        requires spare { 0 < spare_of self.old }
         ensures grown { seen_by self.new ≡ grown (seen_by self.old)
             (entry (if is_ok result then Deleted else Broken) request ∷ []) }
-        ensures spare { self.new.spare ≡ self.old.spare - 1 }
+        ensures spare { spare_of self.new ≡ spare_of self.old - 1 }
     {
         if self.fails_next(false) {
             self.write(EntryKind::Broken, request);
@@ -161,20 +164,20 @@ impl Ledger {
     }
 
     pub fn spare(&self) -> u64
-        ensures { result ≡ self.now.spare }
+        ensures { result ≡ spare_of self.now }
     {
         self.spare
     }
 
     pub fn len(&self) -> u64
-        ensures { result ≡ length self.now.journal.items }
+        ensures { result ≡ length (seen_by self.now).journal }
     {
         self.journal.len() as u64
     }
 
     /// The entry at a place of the journal, from 0.
     pub fn entry_at(&self, place: u64) -> Option<Entry>
-        ensures { result ≡ slice_get self.now.journal.items place }
+        ensures { result ≡ slice_get (seen_by self.now).journal place }
     {
         self.journal.get(place as usize).copied()
     }

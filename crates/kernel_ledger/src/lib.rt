@@ -9,6 +9,6 @@ mod rule_store;
 mod tables;
 
 pub use kernel::LedgerKernel;
-pub use ledger::{FailLists, Ledger};
+pub use ledger::Ledger;
 pub use rule_store::RuleStore;
 pub use tables::Tables;

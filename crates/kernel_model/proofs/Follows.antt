@@ -123,8 +123,8 @@ module _ (k : KernelState) (p : Packet) where
           let d = next.decides v e in
           (ap (λ l. steps ++ l) (sym d.0) ∙ told.steps_told, sym d.1 ∙ told.verdict_told)
 
-      behind : drop (suc next.k) (drop from rules) ≡ drop (f.place + 1) rules
-      behind = let i = next.is in let e : from + suc next.k ≡ f.place + 1 = omega (arith, i) in drop-drop (suc next.k) from rules ∙ ap (λ m. drop m rules) e
+      rest_after : drop (suc next.k) (drop from rules) ≡ drop (f.place + 1) rules
+      rest_after = let i = next.is in let e : from + suc next.k ≡ f.place + 1 = omega (arith, i) in drop-drop (suc next.k) from rules ∙ ap (λ m. drop m rules) e
 
       pub told_goes_on : gives k.tables f.rule.action p ≡ None → IsTold (steps ++ step_of f.rule ∷ []) (f.place + 1)
       told_goes_on e =
@@ -132,8 +132,8 @@ module _ (k : KernelState) (p : Packet) where
           record {
             steps_told =
                 append_assoc steps (step_of f.rule ∷ []) (trail_rules k.tables p (drop (f.place + 1) rules))
-                ∙ ap (λ l. steps ++ step_of f.rule ∷ trail_rules k.tables p l) (sym behind) ∙ ap (λ l. steps ++ l) (sym d.0) ∙ told.steps_told;
-            verdict_told = ap (walk_rules k.tables p) (sym behind) ∙ sym d.1 ∙ told.verdict_told;
+                ∙ ap (λ l. steps ++ step_of f.rule ∷ trail_rules k.tables p l) (sym rest_after) ∙ ap (λ l. steps ++ l) (sym d.0) ∙ told.steps_told;
+            verdict_told = ap (walk_rules k.tables p) (sym rest_after) ∙ sym d.1 ∙ told.verdict_told;
           }
 
       pub told_within : (from ≤ f.place) × (f.place < length rules)

@@ -149,7 +149,7 @@ module _ (rules : List Rule) (order keyed : List Spot) (ix : IsIndex rules order
             let other : k.0 ≡ s → ⊥ = λ e. cut-not (flat s) order ix.order_rises (ix.to_order s is_first.there) (subst (λ (z : Spot). In z (cut (flat s) order)) (k.2 ∙ ap flat e) i) in
             (k.0, cut-in k.0 s keyed ix.keyed_rises is_first.there other k.1, k.2)
 
-    -- no rule in front of it is this one
+    -- no rule before it is this one
     in-front : (o : Spot) → In o order → below o (flat s) ≡ true → same_rule rule (rule_at rules o) ≡ false
     in-front o i b = elim (cases_Bool (same_rule rule (rule_at rules o))) as (λ _. same_rule rule (rule_at rules o) ≡ false) [
       | inr other ↦ other

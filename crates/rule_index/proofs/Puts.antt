@@ -69,7 +69,7 @@ module _ (rules : List Rule) (r : Rule) where
       to_keyed o (inl q) = (new, put-in new new keyed (inl refl), q)
       to_keyed o (inr k) = let t = ix.to_keyed o k in (t.0, put-in t.0 new keyed (inr t.1), t.2)
 
-  -- a rule that came before is in front of the new one exactly where its priority isn't greater
+  -- a rule that came before stands before the new one exactly where its priority isn't greater
   order_by_priority : (p q m n : ℕ) → m < n → lex p q (lex 0 0 (lex 0 0 (nat_lt m n))) ≡ nat_le p q
   order_by_priority p q m n h = grind (arith, nat_tests)
 

@@ -13,20 +13,25 @@ abbrev pub passes : (Rule → Bool) → Option Rule → Bool
 passes p None = false
 passes p (Some r) = p r
 
+-- the same of the rule of a spot
 abbrev pub rule_passes : (Rule → Bool) → List Rule → Spot → Bool
 rule_passes p rules s = passes p (slice_get rules s.number)
 
+-- whether the rule of the spot matches, and the spot isn't before this one in the list
 abbrev pub fits : List Rule → Packet → Spot → Spot → Bool
 fits rules p from s = not (below (flat s) from) && rule_passes (λ r. matches r p) rules s
 
+-- the earlier of what was found and of this spot, where it fits
 abbrev pub better : List Rule → Packet → Spot → Option Spot → Spot → Option Spot
 better rules p from None s = if fits rules p from s then Some s else None
 better rules p from (Some best) s = if below (flat s) (flat best) && fits rules p from s then Some s else Some best
 
+-- the earliest of what was found and of the spots that fit
 abbrev pub least : List Rule → Packet → Spot → Option Spot → List Spot → Option Spot
 least rules p from found [] = found
 least rules p from found (s ∷ ss) = least rules p from (better rules p from found s) ss
 
+-- whether the spot has a greater priority than what was found
 abbrev pub is_past : Option Spot → Spot → Bool
 is_past None s = false
 is_past (Some best) s = nat_lt best.priority s.priority
@@ -45,5 +50,6 @@ is_number_of rules rule n = passes (same_rule rule) (slice_get rules n)
 abbrev pub is_same : List Rule → Rule → Spot → Bool
 is_same rules rule s = is_number_of rules rule s.number
 
+-- the first spot from this one on whose rule is the given one
 abbrev pub first_same : List Rule → Rule → Spot → List Spot → Option Spot
 first_same rules rule start ss = find (is_same rules rule) (drop (place_of start ss) ss)

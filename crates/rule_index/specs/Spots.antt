@@ -8,9 +8,11 @@ use Rattle.rule_index.specs.declared.spot.Sorting.{Sorting}
 use Rattle.rule_index.specs.declared.spot.Sorting.TheVariants.{ByArrival, ByKey}
 use Rattle.rule_index.specs.declared.spot.Spot.{Spot}
 
+-- whether x is less than y; where they are equal, the rest says
 abbrev pub lex : ℕ → ℕ → Bool → Bool
 lex x y rest = if x == y then rest else nat_lt x y
 
+-- the order of spots: by priority, group, value and arrival
 abbrev pub below : Spot → Spot → Bool
 below a b = lex a.priority b.priority (lex a.group b.group (lex a.value b.value (nat_lt a.number b.number)))
 
@@ -18,6 +20,7 @@ below a b = lex a.priority b.priority (lex a.group b.group (lex a.value b.value 
 abbrev pub flat : Spot → Spot
 flat s = record { priority = s.priority; group = 0; value = 0; number = s.number }
 
+-- the ranges of UIDs of a group reach less far than this
 abbrev pub size_of : ℕ → ℕ
 size_of g =
     if g == 1 then 1
@@ -30,6 +33,7 @@ size_of g =
     else (if g == 8 then 268435456
     else 4294967296)))))))
 
+-- the group of a range by how far it reaches, from its first UID to its last
 abbrev pub level_of : ℕ → ℕ
 level_of r =
     if nat_lt r 1 then 1
@@ -45,6 +49,7 @@ level_of r =
 abbrev pub level_of_range : UidRange → ℕ
 level_of_range range = level_of (range.last.number - range.first.number)
 
+-- whether a rule's mask has all the bits that hold the network
 abbrev pub has_network : Rule → Bool
 has_network r = bit_and r.mask 65535 == 65535
 
@@ -57,6 +62,7 @@ abbrev pub group_of_uids : Option UidRange → Rule → ℕ
 group_of_uids (Some range) r = level_of_range range
 group_of_uids None r = group_of_link r.outgoing r.incoming
 
+-- a rule's group: 0 by its network, 1 to 9 by the size of its range, 10 by its outgoing link, 11 by its incoming one, or 12
 abbrev pub group_of : Rule → ℕ
 group_of r = if has_network r then 0 else group_of_uids r.uids r
 
@@ -69,9 +75,11 @@ abbrev pub value_of_uids : Option UidRange → Rule → ℕ
 value_of_uids (Some range) r = range.first.number / size_of (level_of_range range)
 value_of_uids None r = value_of_link r.outgoing r.incoming
 
+-- its value there: the network, the range's first UID by the size, or the link
 abbrev pub value_of : Rule → ℕ
 value_of r = if has_network r then bit_and r.mark 65535 else value_of_uids r.uids r
 
+-- where a rule stands that arrived with this number
 abbrev pub keyed_of : Rule → ℕ → Spot
 keyed_of r n = record { priority = r.priority; group = group_of r; value = value_of r; number = n }
 
@@ -82,6 +90,7 @@ link_or None none = none
 abbrev pub outgoing_or : Packet → ℕ → ℕ
 outgoing_or p none = link_or p.outgoing none
 
+-- the least and the greatest value of a group's rules that can match the packet
 abbrev pub low_of : Packet → ℕ → ℕ
 low_of p g =
     if g == 0 then bit_and p.mark 65535

@@ -8,7 +8,6 @@ mod spot;
 
 pub use index::RuleIndex;
 use kernel_ledger::LedgerKernel;
-pub use spot::{Sorting, Spot};
 
 /// A kernel that finds its rules by what they select, and fails where it is told to.
 pub type IndexedKernel = LedgerKernel<RuleIndex>;

@@ -23,13 +23,19 @@ pub enum Sorting {
 
 /// The bits of a mark that hold the network.
 const NETWORK: u32 = 0xffff;
-/// The groups: those that select one network, then by the size of the range of UIDs, by outgoing link, by incoming link,
-/// and the others.
-const OUTGOING: u8 = 10;
 
-const INCOMING: u8 = 11;
+/// The group of the rules that select one network. The groups 1 to 9 have those of the others that select UIDs, by the
+/// size of their range.
+const BY_NETWORK: u8 = 0;
 
-const REST: u8 = 12;
+/// Of the rest, those that select an outgoing link.
+const BY_OUTGOING: u8 = 10;
+
+/// And then those that select an incoming link.
+const BY_INCOMING: u8 = 11;
+
+/// All others.
+const OTHERS: u8 = 12;
 
 impl Spot {
     pub fn is_below(&self, other: &Spot) -> bool
@@ -60,7 +66,7 @@ impl Spot {
     }
 }
 
-// The width that a group's ranges of UIDs are below.
+// The ranges of UIDs of a group reach less far than this.
 fn size_of(group: u8) -> u64
     ensures value { result ≡ size_of group }
     ensures positive { 0 < result }
@@ -86,7 +92,7 @@ fn size_of(group: u8) -> u64
     }
 }
 
-// The group of a range whose last UID is so far after its first one.
+// The group of a range that reaches so far, from its first UID to its last.
 fn level_of(reach: u32) -> u8
     ensures { result ≡ level_of reach }
 {
@@ -115,18 +121,18 @@ fn group_of(rule: &Rule) -> u8
     ensures { result ≡ group_of rule.now }
 {
     if rule.mask & NETWORK == NETWORK {
-        return 0;
+        return BY_NETWORK;
     }
     if let Some(range) = rule.uids {
         return level_of(range.last.number - range.first.number);
     }
     if rule.outgoing.is_some() {
-        return OUTGOING;
+        return BY_OUTGOING;
     }
     if rule.incoming.is_some() {
-        return INCOMING;
+        return BY_INCOMING;
     }
-    REST
+    OTHERS
 }
 
 fn value_of(rule: &Rule) -> u64
@@ -189,13 +195,13 @@ pub fn spot_by(rules: &[Rule], sorting: Sorting, number: u32) -> Spot
 fn low_of(packet: &Packet, group: u8) -> u64
     ensures { result ≡ low_of packet.now group }
 {
-    if group == 0 {
+    if group == BY_NETWORK {
         (packet.mark & NETWORK) as u64
-    } else if group == OUTGOING {
+    } else if group == BY_OUTGOING {
         outgoing_or(packet, 1)
-    } else if group == INCOMING {
+    } else if group == BY_INCOMING {
         packet.incoming as u64
-    } else if group == REST {
+    } else if group == OTHERS {
         0
     } else {
         (packet.uid.number as u64 / size_of(group)).saturating_sub(1)
@@ -216,13 +222,13 @@ fn outgoing_or(packet: &Packet, none: u64) -> u64
 fn high_of(packet: &Packet, group: u8) -> u64
     ensures { result ≡ high_of packet.now group }
 {
-    if group == 0 {
+    if group == BY_NETWORK {
         (packet.mark & NETWORK) as u64
-    } else if group == OUTGOING {
+    } else if group == BY_OUTGOING {
         outgoing_or(packet, 0)
-    } else if group == INCOMING {
+    } else if group == BY_INCOMING {
         packet.incoming as u64
-    } else if group == REST {
+    } else if group == OTHERS {
         0
     } else {
         packet.uid.number as u64 / size_of(group)
