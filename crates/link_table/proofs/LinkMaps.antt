@@ -11,7 +11,7 @@ use Rattle.indexmap.specs.IndexMap.{IndexMap, spare}
 use Rattle.list_lemmas.proofs.Anys.{filter-others}
 use Rattle.list_lemmas.proofs.Found.{found-push, found-filter, nat-Decides, some-any}
 use Rattle.list_lemmas.proofs.Numbers.{eqb-refl, unlike-sym}
-use Rattle.list_lemmas.proofs.Pairs.{pairwise-filter, pairwise-append}
+use Rattle.list_lemmas.proofs.Pairs.{pairwise-filter, pairwise-push}
 use Rattle.link_table.specs.Links.{index_of, name_of, is_taken, clash, are_apart}
 use Rattle.link_table.specs.Table.{room_of, AreIndexed}
 use Rattle.link_table.specs.declared.link.Link.{Link}
@@ -28,12 +28,6 @@ none-either p q (l ∷ ls) none =
     let rest = none-either p q ls parts.1 in
     (or_from _ _ here.0 rest.0, or_from _ _ here.1 rest.1)
 
-apart-from : (link : Link) (ls : List Link) → is_taken link.name link.index ls ≡ false → list_all (λ l. list_all (λ m. not (clash l m)) (link ∷ [])) ls ≡ true
-apart-from link [] fresh = refl
-apart-from link (l ∷ ls) fresh =
-    let parts = or_parts (clash l link) (is_taken link.name link.index ls) fresh in
-    and_from _ _ (and_from (not (clash l link)) true (not_from_false _ parts.0) refl) (apart-from link ls parts.1)
-
 pub indexed-add : (links : List Link) (names names' : List (List ℕ × ℕ)) (indices indices' : List (ℕ × List ℕ)) (link : Link) → AreIndexed links names indices
     → is_taken link.name link.index links ≡ false
     → ((q : List ℕ) → lookup (bytes_eq q) names' ≡ cond (bytes_eq link.name q) (Some link.index) (lookup (bytes_eq q) names))
@@ -44,7 +38,7 @@ indexed-add links names names' indices indices' link old fresh put_name put_inde
     record {
       by_name = λ q. put_name q ∙ ap (λ r. cond (bytes_eq link.name q) (Some link.index) r) (old.by_name q) ∙ sym (found-push bytes_eq bytes_eq-Decides (λ (l : Link). l.name) (λ l. l.index) q links link two.0);
       by_index = λ q. put_index q ∙ ap (λ r. cond (nat_eq link.index q) (Some link.name) r) (old.by_index q) ∙ sym (found-push nat_eq nat-Decides (λ (l : Link). l.index) (λ l. l.name) q links link two.1);
-      apart = pairwise-append (λ a b. not (clash a b)) links (link ∷ []) old.apart refl (apart-from link links fresh);
+      apart = pairwise-push clash links link old.apart fresh;
     }
 
 bytes-turned : (a b : List ℕ) → bytes_eq a b ≡ false → bytes_eq b a ≡ false
