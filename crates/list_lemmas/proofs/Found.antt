@@ -71,3 +71,7 @@ or-four false false c d = refl
 pub any-or : {X : Type 0} (p q : X → Bool) (xs : List X) → (list_any p xs || list_any q xs) ≡ list_any (λ x. p x || q x) xs
 any-or p q [] = refl
 any-or p q (x ∷ xs) = or-four (p x) (list_any p xs) (q x) (list_any q xs) ∙ ap (λ b. (p x || q x) || b) (any-or p q xs)
+
+pub find-none-any : {X : Type 0} (p : X → Bool) (xs : List X) → list_any p xs ≡ false → find p xs ≡ None
+find-none-any p [] none = refl
+find-none-any p (x ∷ xs) none = let parts = or_parts (p x) (list_any p xs) none in rw parts.0 (find-none-any p xs parts.1)

@@ -75,10 +75,6 @@ module _ {X : Type 0} where
       let parts = or_parts (p x) (list_any p (present xs)) none in
       rw parts.0 (ap (option_map suc) (place-none p xs parts.1))
 
-  pub find-none-any : (p : X → Bool) (xs : List X) → list_any p xs ≡ false → find p xs ≡ None
-  find-none-any p [] none = refl
-  find-none-any p (x ∷ xs) none = let parts = or_parts (p x) (list_any p xs) none in rw parts.0 (find-none-any p xs parts.1)
-
 -- items that a key tells apart
 module _ {K X : Type 0} (eq : K → K → Bool) (same : (a b : K) → Decides (eq a b) (a ≡ b)) (key : X → K) where
   abbrev pub AreApart : List X → Type 0

@@ -1,8 +1,9 @@
 use Rattle.std.proofs.Common.{◌∙◌, ap, sym, Some, find, arith}
+use Rattle.list_lemmas.proofs.Found.{find-none-any}
 use Rattle.std.proofs.lemmas.Option.{slice_get_within, get_or_from_slice_get}
 use Rattle.route_store.specs.Slots.{RoutesView, present}
 use Rattle.route_store.proofs.Placed.{keyed, none-keyed}
-use Rattle.route_store.proofs.Places.{place-found, find-none-any}
+use Rattle.route_store.proofs.Places.{place-found}
 use Rattle.route_store.proofs.slots.RouteSlots.find.Goals as goal
 
 pub returns-in_default : goal.returns-in_default

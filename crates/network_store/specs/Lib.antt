@@ -1,0 +1,4 @@
+pub mod Ranges
+pub mod Stored
+pub mod Owners
+pub mod Store

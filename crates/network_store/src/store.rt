@@ -1,0 +1,242 @@
+ghost use Rattle.std.specs.Prelude.{◌≡◌, ℕ, ◌==◌, ◌≤◌, ◌<◌, ◌++◌, ◌∷◌, [], None, Some, false, cond, length, nat_eq, slice_get, OnOk, IfOk};
+ghost use Rattle.std.specs.List.{list_any};
+ghost use Rattle.std.specs.Map.{lookup};
+ghost use Rattle.std.specs.Option.{option_map, IfSome};
+ghost use Rattle.networks.specs.Kinds.{ranges_of};
+ghost use Rattle.networks.specs.Lists.{find_id, find_link, drop_net};
+ghost use Rattle.networks.specs.Network.{has_link, is_keyed_by, local_network};
+ghost use Rattle.networks.specs.declared.kind.Kind.TheVariants as kind;
+ghost use Rattle.uid_ranges.specs.Ranges.{AreDisjoint};
+ghost use Rattle.uid_ranges.specs.Ranks.{last_rank, users_meet};
+ghost use Rattle.network_store.specs.Stored as stored;
+ghost use Rattle.network_store.specs.Store as store;
+
+use crate::network::{StoredKind, StoredNetwork};
+use crate::ranges::StoredRanges;
+use fwmark::Permission;
+use indexmap::IndexMap;
+use networks::{LOCAL_ID, LinkRoute};
+use prefixes::Route;
+use std::alloc::{AllocError, Global};
+use std::marker::Model;
+use uid_ranges::UidRange;
+
+/// The networks in the order of their creation, found by id and by link without a search. Each change is made in room that was
+/// made before, so that it can't fail.
+#[derive(Drop)]
+pub struct StoredNetworks {
+    by_id: IndexMap<u16, StoredNetwork>,
+    by_link: IndexMap<u16, u16>,
+}
+
+impl Model for StoredNetworks {
+    ghost use Rattle.std.specs.Map.{values_of};
+    ghost use Rattle.indexmap.specs.IndexMap.{spare};
+    ghost use Rattle.network_store.specs.Store.{StoreView, AreIndexed};
+
+    ghost Value = { StoreView };
+
+    ghost view = { λ n. record {
+      list = values_of n.by_id.entries;
+      more = spare n.by_id;
+      more_links = spare n.by_link;
+    } };
+
+    ghost invariant = { λ n. AreIndexed n.by_id.entries n.by_link.entries };
+}
+
+fn forget_links(by_link: &mut IndexMap<u16, u16>, links: &[u16])
+    ensures { (q : ℕ) → lookup (nat_eq q) by_link.new.entries ≡
+        cond (list_any (λ link. link == q) links.now) None (lookup (nat_eq q) by_link.old.entries) }
+{
+    for link in links {
+        by_link.swap_remove(link);
+    }
+}
+
+impl StoredNetworks {
+    /// The local network alone.
+    pub fn start(alloc: Global) -> Result<StoredNetworks, AllocError>
+        ensures { IfOk result (λ networks. store.nets_of networks ≡ local_network ∷ []) }
+    {
+        let mut by_id = IndexMap::new(alloc);
+        let local = StoredNetwork::new(alloc, LOCAL_ID, StoredKind::Local);
+        by_id.insert(LOCAL_ID, local)?;
+        Ok(StoredNetworks {
+            by_id,
+            by_link: IndexMap::new(alloc),
+        })
+    }
+
+    /// How many networks there are.
+    pub fn len(&self) -> usize
+        ensures { result ≡ length (store.nets_of self.now) }
+    {
+        self.by_id.len()
+    }
+
+    /// The network at a place, from 0.
+    pub fn at(&self, place: usize) -> Option<&StoredNetwork>
+        ensures { option_map (λ n. stored.net_of n.now) result ≡
+            slice_get (store.nets_of self.now) place }
+    {
+        match self.by_id.get_index(place) {
+            Some((_, network)) => Some(network),
+            None => None,
+        }
+    }
+
+    /// The network of this id.
+    pub fn get(&self, id: u16) -> Option<&StoredNetwork>
+        ensures { option_map (λ n. stored.net_of n.now) result ≡
+            find_id id (store.nets_of self.now) }
+    {
+        self.by_id.get(&id)
+    }
+
+    /// The network of which the link is an interface.
+    pub fn network_of(&self, link: u16) -> Option<&StoredNetwork>
+        ensures { option_map (λ n. stored.net_of n.now) result ≡
+            find_link link (store.nets_of self.now) }
+    {
+        match self.by_link.get(&link) {
+            Some(id) => self.by_id.get(id),
+            None => None,
+        }
+    }
+
+    /// Makes room for one network more. The networks stay.
+    pub fn reserve_network(&mut self) -> Result<(), AllocError>
+        ensures nets { store.nets_of self.new ≡ store.nets_of self.old }
+        ensures room { OnOk result (0 < self.new.more) }
+    {
+        self.by_id.reserve(1)
+    }
+
+    fn create(&mut self, id: u16, kind: StoredKind)
+        requires room { 0 < self.old.more }
+        requires fresh { find_id id (store.nets_of self.old) ≡ None }
+        requires bare { ranges_of (stored.kind_of kind) ≡ [] }
+        ensures { store.nets_of self.new ≡
+            store.nets_of self.old ++ stored.bare_net id (stored.kind_of kind) ∷ [] }
+    {
+        let alloc = *self.by_id.allocator();
+        let network = StoredNetwork::new(alloc, id, kind);
+        let _ = self.by_id.insert(id, network);
+    }
+
+    /// Puts a physical network without interfaces and app ranges after the others, in the room that is there.
+    pub fn create_physical(&mut self, id: u16, permission: Permission)
+        requires room { 0 < self.old.more }
+        requires fresh { find_id id (store.nets_of self.old) ≡ None }
+        ensures { store.nets_of self.new ≡
+            store.nets_of self.old ++ stored.bare_net id (kind.Physical permission []) ∷ [] }
+    {
+        let apps = StoredRanges::empty(*self.by_id.allocator());
+        self.create(id, StoredKind::Physical { permission, apps });
+    }
+
+    /// Puts a virtual network without interfaces and users after the others, in the room that is there.
+    pub fn create_virtual(&mut self, id: u16, secure: bool)
+        requires room { 0 < self.old.more }
+        requires fresh { find_id id (store.nets_of self.old) ≡ None }
+        ensures { store.nets_of self.new ≡
+            store.nets_of self.old ++ stored.bare_net id (kind.Virtual secure []) ∷ [] }
+    {
+        let users = StoredRanges::empty(*self.by_id.allocator());
+        self.create(id, StoredKind::Virtual { secure, users });
+    }
+
+    /// Takes the network of this id out. The others keep their order.
+    pub fn destroy(&mut self, id: u16)
+        ensures { store.nets_of self.new ≡ drop_net id (store.nets_of self.old) }
+    {
+        let Some(network) = self.by_id.shift_remove(&id) else {
+            return;
+        };
+        forget_links(&mut self.by_link, network.interfaces.as_slice());
+    }
+
+    /// Replaces the permission of the physical network of this id.
+    pub fn set_permission(&mut self, id: u16, permission: Permission)
+        ensures { store.nets_of self.new ≡
+            store.with_net id (stored.with_permission permission) (store.nets_of self.old) }
+    {
+        let Some(network) = self.by_id.get_mut(&id) else {
+            return;
+        };
+        network.set_permission(permission);
+    }
+
+    /// Makes room for one interface more, of any network. The networks stay.
+    pub fn reserve_interface(&mut self) -> Result<(), AllocError>
+        ensures nets { store.nets_of self.new ≡ store.nets_of self.old }
+        ensures room { OnOk result (0 < self.new.more_links) }
+    {
+        self.by_link.reserve(1)
+    }
+
+    /// Gives the network of this id the link as its last interface, in the room that is there.
+    pub fn add_interface(&mut self, id: u16, link: u16)
+        requires room { 0 < self.old.more_links }
+        requires few { IfSome (find_id id (store.nets_of self.old)) (λ n. length n.interfaces < 8) }
+        requires fresh { find_link link (store.nets_of self.old) ≡ None }
+        ensures { store.nets_of self.new ≡
+            store.with_net id (stored.with_link link) (store.nets_of self.old) }
+    {
+        let Some(network) = self.by_id.get_mut(&id) else {
+            return;
+        };
+        network.add_interface(link);
+        let _ = self.by_link.insert(link, id);
+    }
+
+    /// Takes the interface of this link out of the network of this id, and its routes.
+    pub fn remove_interface(&mut self, id: u16, link: u16)
+        requires { option_map (λ n. n.id) (find_link link (store.nets_of self.old)) ≡ Some id }
+        ensures { store.nets_of self.new ≡
+            store.with_net id (stored.without_link link) (store.nets_of self.old) }
+    {
+        let Some(network) = self.by_id.get_mut(&id) else {
+            return;
+        };
+        network.remove_interface(link);
+        self.by_link.swap_remove(&link);
+    }
+
+    /// Makes room for one route more in the network of this id. The networks stay.
+    pub fn reserve_route(&mut self, id: u16) -> Result<(), AllocError>
+        ensures nets { store.nets_of self.new ≡ store.nets_of self.old }
+        ensures room { OnOk result (store.HasRoomAt id stored.HasRouteRoom self.new) }
+    {
+        let Some(network) = self.by_id.get_mut(&id) else {
+            return Ok(());
+        };
+        network.reserve_route()
+    }
+
+    /// Puts a route after the others of the network of this id, in the room that is there.
+    pub fn add_route(&mut self, id: u16, route: LinkRoute)
+        requires room { store.HasRoomAt id stored.HasRouteRoom self.old }
+        requires fresh { IfSome (find_id id (store.nets_of self.old))
+            (λ n. list_any (is_keyed_by route.link route.route) n.routes ≡ false) }
+        ensures { store.nets_of self.new ≡
+            store.with_net id (stored.with_route route) (store.nets_of self.old) }
+    {
+        let Some(network) = self.by_id.get_mut(&id) else {
+            return;
+        };
+        network.add_route(route);
+    }
+
+    /// Takes the link's route of this one's key out of the network of this id.
+    pub fn remove_route(&mut self, id: u16, link: u16, key: &Route)
+        ensures { store.nets_of self.new ≡
+            store.with_net id (stored.without_route link key.now) (store.nets_of self.old) }
+    {
+        let Some(network) = self.by_id.get_mut(&id) else {
+            return;
+        };
+        network.remove_route(link, key);
+    }
+}
