@@ -1,3 +1,4 @@
 pub mod Owners
 pub mod Entries
 pub mod Links
+pub mod Sorted

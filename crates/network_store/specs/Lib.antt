@@ -2,3 +2,4 @@ pub mod Ranges
 pub mod Stored
 pub mod Owners
 pub mod Store
+pub mod RankIndex

@@ -2,6 +2,7 @@
 #![tactic(auto)]
 
 mod network;
+mod rank_index;
 mod ranges;
 mod store;
 

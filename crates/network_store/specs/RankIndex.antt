@@ -1,0 +1,50 @@
+-- Ranges with the networks to which they belong, in rising order of rank and, of one rank, of UIDs.
+use Rattle.std.specs.Prelude.{◌≡◌, ℕ, ◌==◌, ◌&&◌, ◌||◌, Bool, List, [], ◌∷◌, Option, nat_lt, nat_le, find, if◌then◌else◌}
+use Rattle.std.specs.List.{list_all}
+use Rattle.std.specs.Option.{option_map}
+use Rattle.list_lemmas.specs.Pairwise.{pairwise}
+use Rattle.uid_ranges.specs.Range.{holds, meets, same_range}
+use Rattle.uid_ranges.specs.Ranks.{last_rank}
+use Rattle.uid_ranges.specs.declared.ranked.Ranked.{Ranked}
+use Rattle.network_store.specs.declared.rank_index.OwnedRange.{OwnedRange}
+
+pub record RankIndexView : Type 0 where
+  pub ranges : List OwnedRange
+  -- how many ranges may come without memory
+  pub room : ℕ
+
+-- of a lower rank, or of this rank and ending before the UID
+abbrev pub ends_before : ℕ → ℕ → Ranked → Bool
+ends_before rank uid r = if r.rank == rank then nat_lt r.users.last.number uid else nat_lt r.rank rank
+
+-- of this rank, and holding the UID
+abbrev pub holds_at : ℕ → ℕ → Ranked → Bool
+holds_at rank uid r = (r.rank == rank) && holds r.users uid
+
+-- the same range at the same rank
+abbrev pub same_ranked : Ranked → Ranked → Bool
+same_ranked a b = (a.rank == b.rank) && same_range a.users b.users
+
+-- of one rank, with a UID in both
+abbrev pub clash : Ranked → Ranked → Bool
+clash a b = (a.rank == b.rank) && meets a.users b.users
+
+-- the first ends before the other begins
+abbrev pub comes_before : OwnedRange → OwnedRange → Bool
+comes_before a b = ends_before b.range.rank b.range.users.first.number a.range
+
+abbrev pub rise : List OwnedRange → Bool
+rise ranges = pairwise comes_before ranges
+
+-- no rank is past the last one
+abbrev pub are_low : List OwnedRange → Bool
+are_low ranges = list_all (λ e. nat_le e.range.rank last_rank) ranges
+
+-- a range in its place
+abbrev pub put : OwnedRange → List OwnedRange → List OwnedRange
+put one [] = one ∷ []
+put one (e ∷ es) = if comes_before e one then e ∷ put one es else one ∷ e ∷ es
+
+-- the network to which this very range belongs
+abbrev pub owner_of : List OwnedRange → Ranked → Option ℕ
+owner_of ranges range = option_map (λ e. e.owner) (find (λ e. same_ranked e.range range) ranges)
