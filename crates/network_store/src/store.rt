@@ -239,4 +239,43 @@ impl StoredNetworks {
         };
         network.remove_route(link, key);
     }
+
+    /// Makes room for so many ranges more in the network of this id. The networks stay.
+    pub fn reserve_ranges(&mut self, id: u16, more: usize) -> Result<(), AllocError>
+        ensures nets { store.nets_of self.new ≡ store.nets_of self.old }
+        ensures room { OnOk result (store.HasRoomAt id (stored.HasRangeRoom more) self.new) }
+    {
+        let Some(network) = self.by_id.get_mut(&id) else {
+            return Ok(());
+        };
+        network.reserve_ranges(more)
+    }
+
+    /// Gives the network of this id these ranges with this rank, in the room that is there: apps to a physical network, users to
+    /// a VPN. The local network takes none.
+    pub fn add_ranges(&mut self, id: u16, more: &[UidRange], rank: u8)
+        requires room { store.HasRoomAt id (stored.HasRangeRoom (length more.now)) self.old }
+        requires in_range { rank ≤ last_rank }
+        requires disjoint { AreDisjoint more.now }
+        requires apart { IfSome (find_id id (store.nets_of self.old))
+            (λ n. users_meet (ranges_of n.kind) more.now ≡ false) }
+        ensures { store.nets_of self.new ≡
+            store.with_net id (stored.with_ranges rank more.now) (store.nets_of self.old) }
+    {
+        let Some(network) = self.by_id.get_mut(&id) else {
+            return;
+        };
+        network.add_ranges(more, rank);
+    }
+
+    /// Takes these ranges out of the network of this id, at whatever rank.
+    pub fn remove_ranges(&mut self, id: u16, gone: &[UidRange])
+        ensures { store.nets_of self.new ≡
+            store.with_net id (stored.without_ranges gone.now) (store.nets_of self.old) }
+    {
+        let Some(network) = self.by_id.get_mut(&id) else {
+            return;
+        };
+        network.remove_ranges(gone);
+    }
 }
