@@ -2,3 +2,4 @@ pub mod Owners
 pub mod Entries
 pub mod Links
 pub mod Sorted
+pub mod Owned

@@ -1,10 +1,12 @@
 -- Ranges with the networks to which they belong, in rising order of rank and, of one rank, of UIDs.
 use Rattle.std.specs.Prelude.{◌≡◌, ℕ, ◌==◌, ◌&&◌, ◌||◌, Bool, List, [], ◌∷◌, Option, nat_lt, nat_le, find, if◌then◌else◌}
-use Rattle.std.specs.List.{list_all}
+use Rattle.std.specs.List.{list_all, list_any}
 use Rattle.std.specs.Option.{option_map}
 use Rattle.list_lemmas.specs.Pairwise.{pairwise}
 use Rattle.uid_ranges.specs.Range.{holds, meets, same_range}
+use Rattle.uid_ranges.specs.Ranges.{has, meets_any}
 use Rattle.uid_ranges.specs.Ranks.{last_rank}
+use Rattle.uid_ranges.specs.declared.range.UidRange.{UidRange}
 use Rattle.uid_ranges.specs.declared.ranked.Ranked.{Ranked}
 use Rattle.network_store.specs.declared.rank_index.OwnedRange.{OwnedRange}
 
@@ -48,3 +50,15 @@ put one (e ∷ es) = if comes_before e one then e ∷ put one es else one ∷ e 
 -- the network to which this very range belongs
 abbrev pub owner_of : List OwnedRange → Ranked → Option ℕ
 owner_of ranges range = option_map (λ e. e.owner) (find (λ e. same_ranked e.range range) ranges)
+
+-- some range of this rank meets one of these
+abbrev pub any_meets : ℕ → List UidRange → List OwnedRange → Bool
+any_meets rank more ranges = list_any (λ e. (e.range.rank == rank) && meets_any e.range.users more) ranges
+
+-- the range stands in the list with its rank
+abbrev pub has_ranked : List Ranked → Ranked → Bool
+has_ranked list range = list_any (λ one. same_ranked one range) list
+
+-- and is one of these
+abbrev pub has_among : List UidRange → List Ranked → Ranked → Bool
+has_among gone list range = list_any (λ one. has gone one.users && same_ranked one range) list

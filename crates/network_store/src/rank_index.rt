@@ -1,13 +1,14 @@
 ghost use Rattle.std.specs.Prelude.{◌≡◌, ℕ, ◌≤◌, ◌<◌, ◌+◌, [], None, Some, true, false, cond, filter, not, find, length, slice_get, OnOk, vec_len, vec_capacity};
 ghost use Rattle.std.specs.List.{list_any, prefix_len};
 ghost use Rattle.std.specs.Option.{option_map};
-ghost use Rattle.uid_ranges.specs.Ranks.{last_rank};
+ghost use Rattle.uid_ranges.specs.Ranges.{AreDisjoint, has};
+ghost use Rattle.uid_ranges.specs.Ranks.{last_rank, all_at};
 ghost use Rattle.uid_ranges.specs.declared.ranked.Ranked.{Ranked};
-ghost use Rattle.network_store.specs.RankIndex.{ends_before, holds_at, same_ranked, clash, rise, put, owner_of, are_low};
+ghost use Rattle.network_store.specs.RankIndex.{ends_before, holds_at, same_ranked, clash, rise, put, owner_of, are_low, any_meets, has_ranked, has_among};
 
 use std::alloc::{AllocError, Global};
 use std::marker::Model;
-use uid_ranges::{LAST_RANK, Ranked, Uid};
+use uid_ranges::{Ranked, Uid, UidRange};
 
 /// A range with the network to which it belongs.
 #[derive(Clone, Copy, Debug)]
@@ -67,6 +68,18 @@ fn place_of(ranges: &[OwnedRange], rank: u8, uid: Uid) -> usize
     ranges.partition_point(|one| one.ends_before(rank, uid))
 }
 
+fn ranked(users: UidRange, rank: u8) -> Ranked
+    ensures { result ≡ record { users = users; rank = rank } }
+{
+    Ranked { users, rank }
+}
+
+fn is_among(one: &Ranked, list: &[UidRange]) -> bool
+    ensures { result ≡ has list.now one.now.users }
+{
+    list.iter().any(|other| one.users.is_same(other))
+}
+
 fn range_at(ranges: &[OwnedRange], place: usize) -> Option<OwnedRange>
     ensures { result ≡ slice_get ranges.now place }
 {
@@ -112,6 +125,8 @@ impl RankIndex {
         requires apart { list_any (λ e. clash e.range range) self.old.ranges ≡ false }
         ensures ranges { self.new.ranges ≡
             put (record { range = range; owner = owner }) self.old.ranges }
+        ensures owners { (r : Ranked) → owner_of self.new.ranges r ≡
+            cond (same_ranked range r) (Some owner) (owner_of self.old.ranges r) }
         ensures room { self.old.room ≤ self.new.room + 1 }
     {
         let place = place_of(&self.ranges, range.rank, range.users.first());
@@ -120,8 +135,10 @@ impl RankIndex {
 
     // Takes this very range of this rank out.
     pub(crate) fn remove(&mut self, range: &Ranked)
-        ensures { self.new.ranges ≡
+        ensures ranges { self.new.ranges ≡
             filter (λ e. not (same_ranked e.range range.now)) self.old.ranges }
+        ensures owners { (r : Ranked) → owner_of self.new.ranges r ≡
+            cond (same_ranked range.now r) None (owner_of self.old.ranges r) }
     {
         let place = place_of(&self.ranges, range.rank, range.users.first());
         let Some(one) = range_at(&self.ranges, place) else {
@@ -129,6 +146,42 @@ impl RankIndex {
         };
         if is_same(&one.range, range) {
             self.ranges.remove(place);
+        }
+    }
+
+    // Puts these ranges of one network in their places, in the room that is there.
+    pub(crate) fn insert_all(&mut self, more: &[UidRange], rank: u8, owner: u16)
+        requires room { length more.now ≤ self.old.room }
+        requires low { rank ≤ last_rank }
+        requires disjoint { AreDisjoint more.now }
+        requires apart { any_meets rank more.now self.old.ranges ≡ false }
+        ensures { (r : Ranked) → owner_of self.new.ranges r ≡
+            cond (has_ranked (all_at rank more.now) r) (Some owner) (owner_of self.old.ranges r) }
+    {
+        for users in more {
+            self.insert(ranked(*users, rank), owner);
+        }
+    }
+
+    // Takes all these ranges out.
+    pub(crate) fn remove_all(&mut self, gone: &[Ranked])
+        ensures { (r : Ranked) → owner_of self.new.ranges r ≡
+            cond (has_ranked gone.now r) None (owner_of self.old.ranges r) }
+    {
+        for one in gone {
+            self.remove(one);
+        }
+    }
+
+    // Takes those of the ranges out that are among these.
+    pub(crate) fn remove_among(&mut self, list: &[Ranked], gone: &[UidRange])
+        ensures { (r : Ranked) → owner_of self.new.ranges r ≡
+            cond (has_among gone.now list.now r) None (owner_of self.old.ranges r) }
+    {
+        for one in list {
+            if is_among(one, gone) {
+                self.remove(one);
+            }
         }
     }
 }

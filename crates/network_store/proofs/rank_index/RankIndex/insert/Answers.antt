@@ -1,10 +1,11 @@
-use Rattle.std.proofs.Common.{◌≡◌, ◌<◌, ◌∙◌, ℕ, sym, ap, subst, true, false, nat_le, arith, vec_len, vec_capacity}
+use Rattle.std.proofs.Common.{◌≡◌, ◌<◌, ◌∙◌, ℕ, cond, Some, sym, ap, subst, true, false, nat_le, arith, vec_len, vec_capacity}
 use Rattle.std.specs.List.{list_any, insert, prefix_len}
 use Rattle.std.proofs.lemmas.Bool.Decides.{nat_tests}
 use Rattle.list_lemmas.proofs.Found.{then-at_ok}
-use Rattle.network_store.specs.RankIndex.{RankIndexView, ends_before, clash, rise, are_low, put}
+use Rattle.network_store.specs.RankIndex.{RankIndexView, ends_before, clash, rise, are_low, put, owner_of, same_ranked}
 use Rattle.network_store.specs.declared.rank_index.OwnedRange.{OwnedRange}
 use Rattle.network_store.proofs.Sorted.{put-insert, rise-put, low-put}
+use Rattle.network_store.proofs.Owned.{owner-put}
 use Rattle.network_store.proofs.rank_index.RankIndex.insert.Goals as goal
 
 placed : (c : goal.After-insert) → c.insert.new.self.items ≡ put (record { range = c.args.range; owner = c.args.owner }) c.self.inside.ranges.items
@@ -29,3 +30,11 @@ invariant_of-self c =
 
 pub returns-clause-ranges : goal.returns-clause-ranges
 returns-clause-ranges c = placed c ∙ ap (λ (v : RankIndexView). put (record { range = c.args.range; owner = c.args.owner }) v.ranges) c.self.view_is
+
+pub returns-clause-owners : goal.returns-clause-owners
+returns-clause-owners c =
+    let apart = subst (λ (v : RankIndexView). list_any (λ e. clash e.range c.args.range) v.ranges ≡ false) (sym c.self.view_is) c.requires.apart in
+    let one : OwnedRange = record { range = c.args.range; owner = c.args.owner } in
+    λ r.
+        ap (λ xs. owner_of xs r) (placed c) ∙ owner-put one c.self.inside.ranges.items apart r
+        ∙ ap (λ (v : RankIndexView). cond (same_ranked c.args.range r) (Some c.args.owner) (owner_of v.ranges r)) c.self.view_is
