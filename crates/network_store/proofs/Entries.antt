@@ -8,12 +8,11 @@ use Rattle.indexmap.specs.IndexMap.{shift_remove_entry}
 use Rattle.list_lemmas.proofs.Alls.{all-push}
 use Rattle.networks.proofs.Distinct.{are_distinct-push}
 use Rattle.networks.specs.Lists.{find_id, drop_net, are_distinct, AreKeyed}
-use Rattle.networks.specs.Network.{has_link}
 use Rattle.networks.specs.declared.network.Network.{Network}
-use Rattle.network_store.specs.Owners.{LeadsToOwner}
-use Rattle.network_store.specs.Store.{with_net, nets_in, StandAtIds, AreIndexed}
+use Rattle.network_store.specs.Store.{with_net, nets_in, StandAtIds, FindOwners, AreIndexed}
 use Rattle.network_store.specs.Stored.{net_of}
 use Rattle.network_store.specs.declared.network.StoredNetwork.{StoredNetwork}
+use Rattle.network_store.specs.declared.rank_index.OwnedRange.{OwnedRange}
 use Rattle.network_store.proofs.Owners.{ids-changed, id-absent, keyed-drop}
 
 abbrev pub Entry : Type 0
@@ -114,51 +113,51 @@ module _ (id : ℕ) where
 
   -- how the entries stay indexed: by links that lead to the owners in the list that they stand for now
 
-  pub indexed-changed : (change : Network → Network) → ((n : Network) → (change n).id ≡ n.id) → (es : List Entry) (links links' : List (ℕ × ℕ)) (n w : StoredNetwork)
-      → AreIndexed es links → Some n ≡ lookup (nat_eq id) es → net_of w ≡ change (net_of n) → w.id ≡ n.id
-      → LeadsToOwner has_link (λ link. lookup (nat_eq link) links') (with_net id change (nets_in es)) → AreIndexed (set_value (nat_eq id) es w) links'
-  indexed-changed change same_id es links links' n w old found is same leads =
+  pub indexed-changed : (change : Network → Network) → ((n : Network) → (change n).id ≡ n.id) → (es : List Entry) (links links' : List (ℕ × ℕ)) (users users' apps apps' : List OwnedRange) (n w : StoredNetwork)
+      → AreIndexed es links users apps → Some n ≡ lookup (nat_eq id) es → net_of w ≡ change (net_of n) → w.id ≡ n.id
+      → FindOwners links' users' apps' (with_net id change (nets_in es)) → AreIndexed (set_value (nat_eq id) es w) links' users' apps'
+  indexed-changed change same_id es links links' users users' apps apps' n w old found is same owners =
       let nets = set-net change es n w old.at_ids found is in
       record {
         at_ids = set-ids es n w old.at_ids found same;
         keyed = ap are_distinct (ap (map (λ (m : Network). m.id)) nets ∙ ids-changed id change same_id (nets_in es)) ∙ old.keyed;
-        links = subst (LeadsToOwner has_link (λ link. lookup (nat_eq link) links')) (sym nets) leads;
+        owners = subst (FindOwners links' users' apps') (sym nets) owners;
       }
 
   -- the room of a network changed, and no more
-  pub indexed-same : (es : List Entry) (links : List (ℕ × ℕ)) (n w : StoredNetwork) → AreIndexed es links → Some n ≡ lookup (nat_eq id) es → net_of w ≡ net_of n → w.id ≡ n.id → AreIndexed (set_value (nat_eq id) es w) links
-  indexed-same es links n w old found is same =
+  pub indexed-same : (es : List Entry) (links : List (ℕ × ℕ)) (users apps : List OwnedRange) (n w : StoredNetwork) → AreIndexed es links users apps → Some n ≡ lookup (nat_eq id) es → net_of w ≡ net_of n → w.id ≡ n.id → AreIndexed (set_value (nat_eq id) es w) links users apps
+  indexed-same es links users apps n w old found is same =
       let nets = set-same es n w found is in
       record {
         at_ids = set-ids es n w old.at_ids found same;
         keyed = ap (λ ns. are_distinct (map (λ (m : Network). m.id) ns)) nets ∙ old.keyed;
-        links = subst (LeadsToOwner has_link (λ link. lookup (nat_eq link) links)) (sym nets) old.links;
+        owners = subst (FindOwners links users apps) (sym nets) old.owners;
       }
 
-  pub indexed-push : (es : List Entry) (links : List (ℕ × ℕ)) (n : StoredNetwork) → AreIndexed es links → n.id ≡ id → find_id id (nets_in es) ≡ None
-      → LeadsToOwner has_link (λ link. lookup (nat_eq link) links) (nets_in es ++ net_of n ∷ []) → AreIndexed (es ++ (id, n) ∷ []) links
-  indexed-push es links n old same fresh leads =
+  pub indexed-push : (es : List Entry) (links : List (ℕ × ℕ)) (users apps : List OwnedRange) (n : StoredNetwork) → AreIndexed es links users apps → n.id ≡ id → find_id id (nets_in es) ≡ None
+      → FindOwners links users apps (nets_in es ++ net_of n ∷ []) → AreIndexed (es ++ (id, n) ∷ []) links users apps
+  indexed-push es links users apps n old same fresh owners =
       let nets = push-nets es n in
       record {
         at_ids = all-push (λ (e : Entry). e.0 ≡ e.1.id) es (id, n) old.at_ids (sym same);
         keyed =
             ap (λ ns. are_distinct (map (λ (m : Network). m.id) ns)) nets ∙ ap are_distinct (map-push (nets_in es) (net_of n) ∙ ap (λ i. map (λ (m : Network). m.id) (nets_in es) ++ i ∷ []) same)
             ∙ are_distinct-push (map (λ (m : Network). m.id) (nets_in es)) id old.keyed (id-absent id (nets_in es) fresh);
-        links = subst (LeadsToOwner has_link (λ link. lookup (nat_eq link) links)) (sym nets) leads;
+        owners = subst (FindOwners links users apps) (sym nets) owners;
       }
     where
       map-push : (ns : List Network) (m : Network) → map (λ (m : Network). m.id) (ns ++ m ∷ []) ≡ map (λ (m : Network). m.id) ns ++ m.id ∷ []
       map-push [] m = refl
       map-push (x ∷ xs) m = ap (λ is. x.id ∷ is) (map-push xs m)
 
-  pub indexed-drop : (es : List Entry) (links links' : List (ℕ × ℕ)) → AreIndexed es links → LeadsToOwner has_link (λ link. lookup (nat_eq link) links') (drop_net id (nets_in es))
-      → AreIndexed (shift_remove_entry (nat_eq id) es) links'
-  indexed-drop es links links' old leads =
+  pub indexed-drop : (es : List Entry) (links links' : List (ℕ × ℕ)) (users users' apps apps' : List OwnedRange) → AreIndexed es links users apps → FindOwners links' users' apps' (drop_net id (nets_in es))
+      → AreIndexed (shift_remove_entry (nat_eq id) es) links' users' apps'
+  indexed-drop es links links' users users' apps apps' old owners =
       let nets = drop-nets es old.at_ids in
       record {
         at_ids = drop-ids es old.at_ids;
         keyed = ap (λ ns. are_distinct (map (λ (m : Network). m.id) ns)) nets ∙ keyed-drop id (nets_in es) old.keyed;
-        links = subst (LeadsToOwner has_link (λ link. lookup (nat_eq link) links')) (sym nets) leads;
+        owners = subst (FindOwners links' users' apps') (sym nets) owners;
       }
 
 pub at-place : (es : List Entry) (place : ℕ) → slice_get (nets_in es) place ≡ option_map (λ (e : Entry). net_of e.1) (slice_get es place)

@@ -3,3 +3,4 @@ pub mod Entries
 pub mod Links
 pub mod Sorted
 pub mod Owned
+pub mod Kinships

@@ -3,7 +3,7 @@ use Rattle.std.proofs.Common.{◌≡◌, ℕ, ◌+◌, ◌==◌, ◌&&◌, ◌||
 use Rattle.std.specs.Bool.{Decides}
 use Rattle.std.specs.List.{list_any}
 use Rattle.std.specs.Option.{option_map}
-use Rattle.std.proofs.lemmas.Bool.{cases_Bool, and_parts, and_from, or_parts, or_from, both_ways, false_from_ne_true, eqb-true}
+use Rattle.std.proofs.lemmas.Bool.{cases_Bool, and_parts, and_from, or_parts, or_from, both_ways, false_from_ne_true, eqb-true, false≢true}
 use Rattle.std.proofs.lemmas.Bool.Decides.{nat_tests}
 use Rattle.list_lemmas.proofs.Found.{found-filter}
 use Rattle.list_lemmas.proofs.Numbers.{eqb-refl}
@@ -117,3 +117,23 @@ more-owned rank owner more i u now next old r at put so_far =
     all-push (x ∷ xs) = ap (λ b. same_ranked (at_rank rank x) r || b) (all-push xs) ∙ or-within (same_ranked (at_rank rank x) r) (has_ranked (all_at rank xs) r) (same_ranked (at_rank rank u) r)
     joined : has_ranked (all_at rank (take (i + 1) more)) r ≡ (has_ranked (all_at rank (take i more)) r || same_ranked (at_rank rank u) r)
     joined = ap (λ xs. has_ranked (all_at rank xs) r) (take-next more i u at) ∙ all-push (take i more)
+
+-- a range that passes a test and belongs to a network
+pub record IsOwnedBy (q : Ranked → Bool) (index : List OwnedRange) : Type 0 where
+  pub range : Ranked
+  pub passes : q range ≡ true
+  pub owner : ℕ
+  pub owned : owner_of index range ≡ Some owner
+
+pub any-owned : (q : Ranked → Bool) (xs : List OwnedRange) → list_any (λ e. q e.range) xs ≡ true → IsOwnedBy q xs
+any-owned q [] any = absurd (false≢true any)
+any-owned q (x ∷ xs) any = elim (cases_Bool (q x.range)) as (λ _. IsOwnedBy q (x ∷ xs)) [
+  | inl e ↦ record { range = x.range; passes = e; owner = x.owner; owned = rw ((same_ranked-Decides x.range x.range).1 refl) refl }
+  | inr e ↦ later (any-owned q xs (rw e at any))
+]
+  where
+    later : IsOwnedBy q xs → IsOwnedBy q (x ∷ xs)
+    later rest = elim (cases_Bool (same_ranked x.range rest.range)) as (λ _. IsOwnedBy q (x ∷ xs)) [
+      | inl s ↦ record { range = rest.range; passes = rest.passes; owner = x.owner; owned = rw s refl }
+      | inr s ↦ record { range = rest.range; passes = rest.passes; owner = rest.owner; owned = rw s rest.owned }
+    ]

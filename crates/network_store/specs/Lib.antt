@@ -1,5 +1,6 @@
 pub mod Ranges
 pub mod Stored
 pub mod Owners
-pub mod Store
 pub mod RankIndex
+pub mod Store
+pub mod Kin

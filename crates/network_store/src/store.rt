@@ -1,17 +1,21 @@
-ghost use Rattle.std.specs.Prelude.{◌≡◌, ℕ, ◌==◌, ◌≤◌, ◌<◌, ◌++◌, ◌∷◌, [], None, Some, false, cond, length, nat_eq, slice_get, OnOk, IfOk};
+ghost use Rattle.std.specs.Prelude.{◌≡◌, ℕ, ◌==◌, ◌&&◌, ◌≤◌, ◌<◌, ◌++◌, ◌∷◌, [], None, Some, false, cond, length, nat_eq, slice_get, OnOk, IfOk};
 ghost use Rattle.std.specs.List.{list_any};
 ghost use Rattle.std.specs.Map.{lookup};
 ghost use Rattle.std.specs.Option.{option_map, IfSome};
-ghost use Rattle.networks.specs.Kinds.{ranges_of};
+ghost use Rattle.networks.specs.Kinds.{class_of, ranges_of};
 ghost use Rattle.networks.specs.Lists.{find_id, find_link, drop_net};
 ghost use Rattle.networks.specs.Network.{has_link, is_keyed_by, local_network};
 ghost use Rattle.networks.specs.declared.kind.Kind.TheVariants as kind;
 ghost use Rattle.uid_ranges.specs.Ranges.{AreDisjoint};
-ghost use Rattle.uid_ranges.specs.Ranks.{last_rank, users_meet};
+ghost use Rattle.uid_ranges.specs.Ranks.{last_rank, users_meet, all_at};
+ghost use Rattle.uid_ranges.specs.declared.ranked.Ranked.{Ranked};
+ghost use Rattle.network_store.specs.Kin.{kin_meet};
+ghost use Rattle.network_store.specs.RankIndex.{any_meets, has_among, has_ranked, owner_of};
 ghost use Rattle.network_store.specs.Stored as stored;
 ghost use Rattle.network_store.specs.Store as store;
 
 use crate::network::{StoredKind, StoredNetwork};
+use crate::rank_index::RankIndex;
 use crate::ranges::StoredRanges;
 use fwmark::Permission;
 use indexmap::IndexMap;
@@ -27,6 +31,8 @@ use uid_ranges::UidRange;
 pub struct StoredNetworks {
     by_id: IndexMap<u16, StoredNetwork>,
     by_link: IndexMap<u16, u16>,
+    users: RankIndex,
+    apps: RankIndex,
 }
 
 impl Model for StoredNetworks {
@@ -40,9 +46,12 @@ impl Model for StoredNetworks {
       list = values_of n.by_id.entries;
       more = spare n.by_id;
       more_links = spare n.by_link;
+      more_users = n.users.room;
+      more_apps = n.apps.room;
     } };
 
-    ghost invariant = { λ n. AreIndexed n.by_id.entries n.by_link.entries };
+    ghost invariant = { λ n. AreIndexed n.by_id.entries n.by_link.entries n.users.ranges
+        n.apps.ranges };
 }
 
 fn forget_links(by_link: &mut IndexMap<u16, u16>, links: &[u16])
@@ -51,6 +60,73 @@ fn forget_links(by_link: &mut IndexMap<u16, u16>, links: &[u16])
 {
     for link in links {
         by_link.swap_remove(link);
+    }
+}
+
+// Enters the ranges of a network of this kind.
+fn enter(
+    users: &mut RankIndex,
+    apps: &mut RankIndex,
+    kind: &StoredKind,
+    more: &[UidRange],
+    rank: u8,
+    id: u16,
+)
+    requires user_room { length more.now ≤ users.old.room }
+    requires app_room { length more.now ≤ apps.old.room }
+    requires low { rank ≤ last_rank }
+    requires disjoint { AreDisjoint more.now }
+    requires users_apart { class_of (stored.kind_of kind.now) ≡ 2 →
+        any_meets rank more.now users.old.ranges ≡ false }
+    requires apps_apart { class_of (stored.kind_of kind.now) ≡ 1 →
+        any_meets rank more.now apps.old.ranges ≡ false }
+    ensures users { (r : Ranked) → owner_of users.new.ranges r ≡
+        cond ((class_of (stored.kind_of kind.now) == 2) && has_ranked (all_at rank more.now) r)
+        (Some id) (owner_of users.old.ranges r) }
+    ensures apps { (r : Ranked) → owner_of apps.new.ranges r ≡
+        cond ((class_of (stored.kind_of kind.now) == 1) && has_ranked (all_at rank more.now) r)
+        (Some id) (owner_of apps.old.ranges r) }
+{
+    match kind {
+        StoredKind::Local => {}
+        StoredKind::Physical { .. } => apps.insert_all(more, rank, id),
+        StoredKind::Virtual { .. } => users.insert_all(more, rank, id),
+    }
+}
+
+// Takes those ranges of a network of this kind out that are among these.
+fn leave(users: &mut RankIndex, apps: &mut RankIndex, kind: &StoredKind, gone: &[UidRange])
+    ensures users { (r : Ranked) → owner_of users.new.ranges r ≡
+        cond ((class_of (stored.kind_of kind.now) == 2) &&
+            has_among gone.now (ranges_of (stored.kind_of kind.now)) r)
+        None (owner_of users.old.ranges r) }
+    ensures apps { (r : Ranked) → owner_of apps.new.ranges r ≡
+        cond ((class_of (stored.kind_of kind.now) == 1) &&
+            has_among gone.now (ranges_of (stored.kind_of kind.now)) r)
+        None (owner_of apps.old.ranges r) }
+{
+    match kind {
+        StoredKind::Local => {}
+        StoredKind::Physical { apps: list, .. } => apps.remove_among(list.as_slice(), gone),
+        StoredKind::Virtual { users: list, .. } => users.remove_among(list.as_slice(), gone),
+    }
+}
+
+// Takes all ranges of a network of this kind out.
+fn leave_all(users: &mut RankIndex, apps: &mut RankIndex, kind: &StoredKind)
+    ensures users { (r : Ranked) → owner_of users.new.ranges r ≡
+        cond ((class_of (stored.kind_of kind.now) == 2) &&
+            has_ranked (ranges_of (stored.kind_of kind.now)) r)
+        None (owner_of users.old.ranges r) }
+    ensures apps { (r : Ranked) → owner_of apps.new.ranges r ≡
+        cond ((class_of (stored.kind_of kind.now) == 1) &&
+            has_ranked (ranges_of (stored.kind_of kind.now)) r)
+        None (owner_of apps.old.ranges r) }
+{
+    match kind {
+        StoredKind::Local => {}
+        StoredKind::Physical { apps: list, .. } => apps.remove_all(list.as_slice()),
+        StoredKind::Virtual { users: list, .. } => users.remove_all(list.as_slice()),
     }
 }
 
@@ -65,6 +141,8 @@ impl StoredNetworks {
         Ok(StoredNetworks {
             by_id,
             by_link: IndexMap::new(alloc),
+            users: RankIndex::empty(alloc),
+            apps: RankIndex::empty(alloc),
         })
     }
 
@@ -155,6 +233,7 @@ impl StoredNetworks {
             return;
         };
         forget_links(&mut self.by_link, network.interfaces.as_slice());
+        leave_all(&mut self.users, &mut self.apps, &network.kind);
     }
 
     /// Replaces the permission of the physical network of this id.
@@ -243,8 +322,10 @@ impl StoredNetworks {
     /// Makes room for so many ranges more in the network of this id. The networks stay.
     pub fn reserve_ranges(&mut self, id: u16, more: usize) -> Result<(), AllocError>
         ensures nets { store.nets_of self.new ≡ store.nets_of self.old }
-        ensures room { OnOk result (store.HasRoomAt id (stored.HasRangeRoom more) self.new) }
+        ensures room { OnOk result (store.HasRangesRoom id more self.new) }
     {
+        self.users.reserve(more)?;
+        self.apps.reserve(more)?;
         let Some(network) = self.by_id.get_mut(&id) else {
             return Ok(());
         };
@@ -254,17 +335,20 @@ impl StoredNetworks {
     /// Gives the network of this id these ranges with this rank, in the room that is there: apps to a physical network, users to
     /// a VPN. The local network takes none.
     pub fn add_ranges(&mut self, id: u16, more: &[UidRange], rank: u8)
-        requires room { store.HasRoomAt id (stored.HasRangeRoom (length more.now)) self.old }
+        requires room { store.HasRangesRoom id (length more.now) self.old }
         requires in_range { rank ≤ last_rank }
         requires disjoint { AreDisjoint more.now }
         requires apart { IfSome (find_id id (store.nets_of self.old))
             (λ n. users_meet (ranges_of n.kind) more.now ≡ false) }
+        requires ranks_apart { IfSome (find_id id (store.nets_of self.old))
+            (λ n. kin_meet rank more.now n (store.nets_of self.old) ≡ false) }
         ensures { store.nets_of self.new ≡
             store.with_net id (stored.with_ranges rank more.now) (store.nets_of self.old) }
     {
         let Some(network) = self.by_id.get_mut(&id) else {
             return;
         };
+        enter(&mut self.users, &mut self.apps, &network.kind, more, rank, id);
         network.add_ranges(more, rank);
     }
 
@@ -276,6 +360,7 @@ impl StoredNetworks {
         let Some(network) = self.by_id.get_mut(&id) else {
             return;
         };
+        leave(&mut self.users, &mut self.apps, &network.kind, gone);
         network.remove_ranges(gone);
     }
 }

@@ -7,7 +7,8 @@ use Rattle.networks.specs.declared.network.Network.{Network}
 use Rattle.network_store.specs.Stored.{net_of, kind_of, bare_net}
 use Rattle.network_store.specs.Store.{StoreView, nets_of, nets_in, AreIndexed}
 use Rattle.network_store.proofs.Entries.{absent-lookup, indexed-push, push-nets}
-use Rattle.network_store.proofs.Owners.{owners-push}
+use Rattle.networks.specs.Kinds.{ranges_of}
+use Rattle.network_store.proofs.Kinships.{owners-come}
 use Rattle.network_store.proofs.store.StoredNetworks.create.Goals as goal
 
 pub invariant_of-self : goal.invariant_of-self
@@ -17,9 +18,9 @@ invariant_of-self c =
     let fresh = subst (λ (v : StoreView). find_id c.args.id (nets_of v) ≡ None) (sym c.self.view_is) c.requires.fresh in
     let absent = absent-lookup c.args.id es c.self.invariant.at_ids fresh in
     let put = on-ok c.insert.result _ (c.insert.ensures.succeeds room) c.insert.ensures.entries ∙ insert_entry-new nat_eq c.self.inside.by_id c.args.id c.new-network.result absent in
-    subst (λ es. AreIndexed es c.self.inside.by_link.entries) (sym put)
-    (indexed-push c.args.id es c.self.inside.by_link.entries c.new-network.result c.self.invariant c.new-network.ensures.id fresh
-    (owners-push has_link _ (nets_in es) (net_of c.new-network.result) c.self.invariant.links (λ link. ap (λ (n : Network). has_link n link) c.new-network.ensures.net)))
+    subst (λ es. AreIndexed es c.self.inside.by_link.entries c.self.inside.users.ranges c.self.inside.apps.ranges) (sym put)
+    (indexed-push c.args.id es c.self.inside.by_link.entries c.self.inside.users.ranges c.self.inside.apps.ranges c.new-network.result c.self.invariant c.new-network.ensures.id fresh
+    (owners-come c.self.inside.by_link.entries c.self.inside.users.ranges c.self.inside.apps.ranges (nets_in es) (net_of c.new-network.result) (ap (λ (n : Network). n.interfaces) c.new-network.ensures.net) (ap (λ (n : Network). ranges_of n.kind) c.new-network.ensures.net ∙ c.requires.bare) c.self.invariant.owners))
 
 pub returns : goal.returns
 returns c =

@@ -14,7 +14,7 @@ use Rattle.network_store.proofs.store.StoredNetworks.network_of.Goals as goal
 pub returns-in-Some : goal.returns-in-Some
 returns-in-Some c =
     let nets = nets_in c.self.inside.by_id.entries in
-    let owner : option_map (λ (n : Network). n.id) (find_link c.args.link nets) ≡ Some c.in-Some.id.now = owner-found has_link _ nets c.self.invariant.links c.args.link ∙ sym c.in-Some.ensures.value in
+    let owner : option_map (λ (n : Network). n.id) (find_link c.args.link nets) ≡ Some c.in-Some.id.now = owner-found has_link _ nets c.self.invariant.owners.of_link c.args.link ∙ sym c.in-Some.ensures.value in
     copied-map net_of c.get-in-Some.result ∙ ap (option_map net_of) c.get-in-Some.ensures.value ∙ sym (find-lookup c.in-Some.id.now c.self.inside.by_id.entries c.self.invariant.at_ids)
     ∙ found-by-id (λ n. has_link n c.args.link) c.in-Some.id.now nets c.self.invariant.keyed owner
     ∙ ap (λ (v : StoreView). find_link c.args.link (nets_of v)) c.self.view_is
@@ -26,5 +26,5 @@ none-id (Some n) is = absurd (none-some n.id (sym is))
 pub returns-in-None : goal.returns-in-None
 returns-in-None c =
     let nets = nets_in c.self.inside.by_id.entries in
-    none-id (find_link c.args.link nets) (owner-found has_link _ nets c.self.invariant.links c.args.link ∙ sym c.in-None.ensures.value)
+    none-id (find_link c.args.link nets) (owner-found has_link _ nets c.self.invariant.owners.of_link c.args.link ∙ sym c.in-None.ensures.value)
     ∙ ap (λ (v : StoreView). find_link c.args.link (nets_of v)) c.self.view_is

@@ -15,8 +15,8 @@ returns-in_default-clause-room c =
 pub invariant_of-self-2 : goal.invariant_of-self-2
 invariant_of-self-2 c =
     let wrote = c.get_mut.follows.holds c.reserve_route.new.self in
-    subst (λ es. AreIndexed es c.self.inside.by_link.entries) (sym wrote.0)
-    (indexed-same c.args.id c.self.inside.by_id.entries c.self.inside.by_link.entries c.in-Some.network.now c.reserve_route.new.self c.self.invariant c.in-Some.ensures.value c.reserve_route.ensures.net c.reserve_route.ensures.same_id)
+    subst (λ es. AreIndexed es c.self.inside.by_link.entries c.self.inside.users.ranges c.self.inside.apps.ranges) (sym wrote.0)
+    (indexed-same c.args.id c.self.inside.by_id.entries c.self.inside.by_link.entries c.self.inside.users.ranges c.self.inside.apps.ranges c.in-Some.network.now c.reserve_route.new.self c.self.invariant c.in-Some.ensures.value c.reserve_route.ensures.net c.reserve_route.ensures.same_id)
 
 pub returns-clause-nets : goal.returns-clause-nets
 returns-clause-nets c =
