@@ -4,3 +4,4 @@ pub mod Links
 pub mod Sorted
 pub mod Owned
 pub mod Kinships
+pub mod Holders

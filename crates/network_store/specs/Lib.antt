@@ -4,3 +4,4 @@ pub mod Owners
 pub mod RankIndex
 pub mod Store
 pub mod Kin
+pub mod Holders

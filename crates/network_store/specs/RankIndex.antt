@@ -1,5 +1,5 @@
 -- Ranges with the networks to which they belong, in rising order of rank and, of one rank, of UIDs.
-use Rattle.std.specs.Prelude.{◌≡◌, ℕ, ◌==◌, ◌&&◌, ◌||◌, Bool, List, [], ◌∷◌, Option, nat_lt, nat_le, find, if◌then◌else◌}
+use Rattle.std.specs.Prelude.{◌≡◌, ℕ, ◌==◌, ◌&&◌, ◌||◌, Bool, List, [], ◌∷◌, Option, Some, None, ◌<◌, nat_lt, nat_le, find, if◌then◌else◌}
 use Rattle.std.specs.List.{list_all, list_any}
 use Rattle.std.specs.Option.{option_map}
 use Rattle.list_lemmas.specs.Pairwise.{pairwise}
@@ -62,3 +62,13 @@ has_ranked list range = list_any (λ one. same_ranked one range) list
 -- and is one of these
 abbrev pub has_among : List UidRange → List Ranked → Ranked → Bool
 has_among gone list range = list_any (λ one. has gone one.users && same_ranked one range) list
+
+-- the network that has the range of this rank which holds the UID
+abbrev pub owner_at : ℕ → ℕ → List OwnedRange → Option ℕ
+owner_at rank uid ranges = option_map (λ e. e.owner) (find (λ e. holds_at rank uid e.range) ranges)
+
+-- the network has the range of the lowest rank that holds the UID
+pub record IsFirstOwner (uid : ℕ) (ranges : List OwnedRange) (owner : ℕ) : Type 0 where
+  pub rank : ℕ
+  pub at : owner_at rank uid ranges ≡ Some owner
+  pub lowest : (lower : ℕ) → lower < rank → owner_at lower uid ranges ≡ None

@@ -1,10 +1,11 @@
 ghost use Rattle.std.specs.Prelude.{◌≡◌, ◌≤◌, ◌<◌, ◌==◌, false, length, OnOk};
 ghost use Rattle.std.specs.List.{list_any};
 ghost use Rattle.fwmark.specs.declared.permission.Permission.{Permission};
-ghost use Rattle.networks.specs.Kinds.{permission_of, ranges_of, is_local, is_physical, is_virtual, is_secure};
+ghost use Rattle.networks.specs.Kinds.{permission_of, ranges_of, is_local, is_physical, is_virtual, is_secure, is_bypass};
 ghost use Rattle.networks.specs.Network.{has_link, is_keyed_by};
 ghost use Rattle.uid_ranges.specs.Ranges.{AreDisjoint};
 ghost use Rattle.uid_ranges.specs.Ranks.{last_rank, users_meet};
+ghost use Rattle.network_store.specs.Holders.{is_vpn};
 ghost use Rattle.network_store.specs.Stored as stored;
 
 use crate::ranges::StoredRanges;
@@ -95,6 +96,27 @@ impl StoredKind {
         match self {
             StoredKind::Virtual { secure, .. } => *secure,
             StoredKind::Local | StoredKind::Physical { .. } => false,
+        }
+    }
+
+    /// Whether it is a VPN that its users may pass by.
+    pub fn is_bypass(&self) -> bool
+        ensures { result ≡ is_bypass (stored.kind_of self.now) }
+    {
+        match self {
+            StoredKind::Virtual { secure, .. } => !*secure,
+            StoredKind::Local | StoredKind::Physical { .. } => false,
+        }
+    }
+
+    /// Whether it is a VPN of this kind.
+    pub(crate) fn is_vpn(&self, secure: bool) -> bool
+        ensures { result ≡ is_vpn secure (stored.kind_of self.now) }
+    {
+        if secure {
+            self.is_secure()
+        } else {
+            self.is_bypass()
         }
     }
 

@@ -1,14 +1,13 @@
-ghost use Rattle.std.specs.Prelude.{◌≡◌, ℕ, ◌≤◌, ◌<◌, ◌+◌, [], None, Some, true, false, cond, filter, not, find, length, slice_get, OnOk, vec_len, vec_capacity};
+ghost use Rattle.std.specs.Prelude.{◌≡◌, ℕ, ◌≤◌, ◌<◌, ◌+◌, [], None, Some, true, false, cond, filter, not, find, length, slice_get, OnOk, IfSome, IfNone, vec_len, vec_capacity};
 ghost use Rattle.std.specs.List.{list_any, prefix_len};
-ghost use Rattle.std.specs.Option.{option_map};
 ghost use Rattle.uid_ranges.specs.Ranges.{AreDisjoint, has};
 ghost use Rattle.uid_ranges.specs.Ranks.{last_rank, all_at};
 ghost use Rattle.uid_ranges.specs.declared.ranked.Ranked.{Ranked};
-ghost use Rattle.network_store.specs.RankIndex.{ends_before, holds_at, same_ranked, clash, rise, put, owner_of, are_low, any_meets, has_ranked, has_among};
+ghost use Rattle.network_store.specs.RankIndex.{ends_before, holds_at, same_ranked, clash, rise, put, owner_of, owner_at, IsFirstOwner, are_low, any_meets, has_ranked, has_among};
 
 use std::alloc::{AllocError, Global};
 use std::marker::Model;
-use uid_ranges::{Ranked, Uid, UidRange};
+use uid_ranges::{LAST_RANK, Ranked, Uid, UidRange};
 
 /// A range with the network to which it belongs.
 #[derive(Clone, Copy, Debug)]
@@ -86,6 +85,20 @@ fn range_at(ranges: &[OwnedRange], place: usize) -> Option<OwnedRange>
     ranges.get(place).copied()
 }
 
+fn owner_in(ranges: &[OwnedRange], rank: u8, uid: Uid) -> Option<u16>
+    requires { rise ranges.now ≡ true }
+    ensures { result ≡ owner_at rank uid.number ranges.now }
+{
+    let place = place_of(ranges, rank, uid);
+    let Some(one) = range_at(ranges, place) else {
+        return None;
+    };
+    if !one.holds_at(rank, uid) {
+        return None;
+    }
+    Some(one.owner)
+}
+
 impl RankIndex {
     pub(crate) fn empty(alloc: Global) -> RankIndex
         ensures { result.ranges ≡ [] }
@@ -97,18 +110,24 @@ impl RankIndex {
 
     // The network that has the range of this rank which holds the UID.
     pub(crate) fn owner_at(&self, rank: u8, uid: Uid) -> Option<u16>
-        ensures owner { result ≡
-            option_map (λ e. e.owner) (find (λ e. holds_at rank uid.number e.range) self.now.ranges) }
+        ensures owner { result ≡ owner_at rank uid.number self.now.ranges }
         ensures rises { rise self.now.ranges ≡ true }
     {
-        let place = place_of(&self.ranges, rank, uid);
-        let Some(one) = range_at(&self.ranges, place) else {
-            return None;
-        };
-        if !one.holds_at(rank, uid) {
-            return None;
+        owner_in(&self.ranges, rank, uid)
+    }
+
+    // The network that has the range of the lowest rank which holds the UID.
+    pub(crate) fn first_owner(&self, uid: Uid) -> Option<u16>
+        ensures first { IfSome result (IsFirstOwner uid.number self.now.ranges) }
+        ensures none { IfNone result ((rank : ℕ) → owner_at rank uid.number self.now.ranges ≡ None) }
+        ensures rises { rise self.now.ranges ≡ true }
+    {
+        for rank in 0..LAST_RANK + 1 {
+            if let Some(owner) = owner_in(&self.ranges, rank, uid) {
+                return Some(owner);
+            }
         }
-        Some(one.owner)
+        None
     }
 
     pub(crate) fn reserve(&mut self, more: usize) -> Result<(), AllocError>

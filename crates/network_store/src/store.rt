@@ -1,4 +1,4 @@
-ghost use Rattle.std.specs.Prelude.{◌≡◌, ℕ, ◌==◌, ◌&&◌, ◌≤◌, ◌<◌, ◌++◌, ◌∷◌, [], None, Some, false, cond, length, nat_eq, slice_get, OnOk, IfOk};
+ghost use Rattle.std.specs.Prelude.{◌≡◌, ℕ, ◌==◌, ◌&&◌, ◌≤◌, ◌<◌, ◌++◌, ◌∷◌, [], None, Some, false, cond, length, nat_eq, slice_get, OnOk, IfOk, IfNone};
 ghost use Rattle.std.specs.List.{list_any};
 ghost use Rattle.std.specs.Map.{lookup};
 ghost use Rattle.std.specs.Option.{option_map, IfSome};
@@ -9,6 +9,7 @@ ghost use Rattle.networks.specs.declared.kind.Kind.TheVariants as kind;
 ghost use Rattle.uid_ranges.specs.Ranges.{AreDisjoint};
 ghost use Rattle.uid_ranges.specs.Ranks.{last_rank, users_meet, all_at};
 ghost use Rattle.uid_ranges.specs.declared.ranked.Ranked.{Ranked};
+ghost use Rattle.network_store.specs.Holders.{user_at, holder_at, preferred_at, IsVpnOf};
 ghost use Rattle.network_store.specs.Kin.{kin_meet};
 ghost use Rattle.network_store.specs.RankIndex.{any_meets, has_among, has_ranked, owner_of};
 ghost use Rattle.network_store.specs.Stored as stored;
@@ -23,7 +24,7 @@ use networks::{LOCAL_ID, LinkRoute};
 use prefixes::Route;
 use std::alloc::{AllocError, Global};
 use std::marker::Model;
-use uid_ranges::UidRange;
+use uid_ranges::{Uid, UidRange};
 
 /// The networks in the order of their creation, found by id and by link without a search. Each change is made in room that was
 /// made before, so that it can't fail.
@@ -179,6 +180,58 @@ impl StoredNetworks {
     {
         match self.by_link.get(&link) {
             Some(id) => self.by_id.get(id),
+            None => None,
+        }
+    }
+
+    /// The virtual network, of either kind, that has a range of this rank which holds the UID.
+    pub fn user_at(&self, rank: u8, uid: Uid) -> Option<&StoredNetwork>
+        ensures { option_map (λ n. stored.net_of n.now) result ≡
+            user_at rank uid.number (store.nets_of self.now) }
+    {
+        match self.users.owner_at(rank, uid) {
+            Some(id) => self.by_id.get(&id),
+            None => None,
+        }
+    }
+
+    /// The virtual network of this kind that has a range of this rank which holds the UID.
+    pub fn holder_at(&self, secure: bool, rank: u8, uid: Uid) -> Option<&StoredNetwork>
+        ensures { option_map (λ n. stored.net_of n.now) result ≡
+            holder_at secure rank uid.number (store.nets_of self.now) }
+    {
+        let Some(id) = self.users.owner_at(rank, uid) else {
+            return None;
+        };
+        let Some(network) = self.by_id.get(&id) else {
+            return None;
+        };
+        if !network.kind.is_vpn(secure) {
+            return None;
+        }
+        Some(network)
+    }
+
+    /// The virtual network, of either kind, whose range of the lowest rank holds the UID.
+    pub fn vpn_of(&self, uid: Uid) -> Option<&StoredNetwork>
+        ensures vpn { IfSome result (λ n.
+            IsVpnOf uid.number (store.nets_of self.now) (stored.net_of n.now)) }
+        ensures none { IfNone result ((rank : ℕ) →
+            user_at rank uid.number (store.nets_of self.now) ≡ None) }
+    {
+        match self.users.first_owner(uid) {
+            Some(id) => self.by_id.get(&id),
+            None => None,
+        }
+    }
+
+    /// The physical network that has an app range of this rank which holds the UID.
+    pub fn preferred_at(&self, rank: u8, uid: Uid) -> Option<&StoredNetwork>
+        ensures { option_map (λ n. stored.net_of n.now) result ≡
+            preferred_at rank uid.number (store.nets_of self.now) }
+    {
+        match self.apps.owner_at(rank, uid) {
+            Some(id) => self.by_id.get(&id),
             None => None,
         }
     }
