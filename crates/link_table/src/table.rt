@@ -26,7 +26,10 @@ impl Model for LinkTable {
 
     ghost Value = { LinkTableView };
 
-    ghost view = { λ t. record { links = t.links.items; room = room_of t.links t.by_name t.by_index } };
+    ghost view = { λ t. record {
+      links = t.links.items;
+      room = room_of t.links t.by_name t.by_index;
+    } };
 
     ghost invariant = { λ t. AreIndexed t.links.items t.by_name.entries t.by_index.entries };
 }

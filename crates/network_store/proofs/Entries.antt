@@ -1,13 +1,13 @@
 -- The entries of a map of stored networks by id, as the list of what they stand for.
-use Rattle.std.proofs.Common.{◌≡◌, ℕ, zero, suc, ◌==◌, ◌∙◌, Bool, true, false, cond, ◌||◌, List, [], ◌∷◌, ◌++◌, map, find, slice_get, Option, Some, None, nat_eq, refl, sym, ap, subst, inl, inr}
+use Rattle.std.proofs.Common.{◌≡◌, ℕ, zero, suc, ◌==◌, ◌∙◌, List, [], ◌∷◌, ◌++◌, map, find, slice_get, Option, Some, None, nat_eq, refl, sym, ap, subst, inl, inr}
 use Rattle.std.specs.Map.{values_of, lookup, set_value}
 use Rattle.std.specs.Option.{option_map, IfSome}
-use Rattle.std.proofs.lemmas.Bool.{cases_Bool, eqb-true, both_ways}
+use Rattle.std.proofs.lemmas.Bool.{cases_Bool}
 use Rattle.std.proofs.lemmas.Option.{none-some, same_Some}
 use Rattle.indexmap.specs.IndexMap.{shift_remove_entry}
 use Rattle.list_lemmas.proofs.Alls.{all-push}
 use Rattle.networks.proofs.Distinct.{are_distinct-push}
-use Rattle.networks.specs.Lists.{find_id, drop_net, are_distinct, AreKeyed}
+use Rattle.networks.specs.Lists.{find_id, drop_net, are_distinct}
 use Rattle.networks.specs.declared.network.Network.{Network}
 use Rattle.network_store.specs.Store.{with_net, nets_in, StandAtIds, FindOwners, AreIndexed}
 use Rattle.network_store.specs.Stored.{net_of}

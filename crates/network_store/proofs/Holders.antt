@@ -1,8 +1,8 @@
 -- The networks that hold a user, by the ranges in their order.
-use Rattle.std.proofs.Common.{Bor, ◌≡◌, ℕ, ◌==◌, ◌<◌, ◌≤◌, ◌&&◌, ◌||◌, Bool, true, false, not, List, [], ◌∷◌, find, map, nat_le, Option, Some, None, if◌then◌else◌, refl, sym, ap, subst, ◌∙◌, arith, inl, inr}
+use Rattle.std.proofs.Common.{Bor, ◌≡◌, ℕ, ◌==◌, ◌<◌, ◌&&◌, ◌||◌, Bool, true, false, not, List, [], ◌∷◌, find, map, nat_le, Option, Some, None, if◌then◌else◌, refl, sym, ap, subst, ◌∙◌, arith, inl, inr}
 use Rattle.std.specs.List.{list_any, list_all, AllByRecursion}
 use Rattle.std.specs.Option.{option_map, IfSome, IfNone}
-use Rattle.std.proofs.lemmas.Bool.{cases_Bool, and_parts, and_from, or_parts, not-true, both_ways, eqb-true, eq-eqb, false≢true}
+use Rattle.std.proofs.lemmas.Bool.{cases_Bool, and_parts, and_from, or_parts, not-true, both_ways, eq-eqb, false≢true}
 use Rattle.std.proofs.lemmas.Bool.Decides.{nat_tests}
 use Rattle.std.proofs.lemmas.Option.{none-some, same_Some}
 use Rattle.list_lemmas.proofs.Alls.{all-weaker}
@@ -31,6 +31,7 @@ none-past rank uid xs past low = ap (option_map (λ (e : OwnedRange). e.owner)) 
   where
     one : (r : Ranked) → nat_le r.rank 99 ≡ true → holds_at rank uid r ≡ false
     one r h = grind (arith, nat_tests)
+
     none : (ys : List OwnedRange) → are_low ys ≡ true → list_any (λ e. holds_at rank uid e.range) ys ≡ false
     none [] h = refl
     none (y ∷ ys) h = let parts = and_parts (nat_le y.range.rank 99) (are_low ys) h in rw (one y.range parts.0) (none ys parts.1)
@@ -85,6 +86,7 @@ some-held rank uid (x ∷ xs) any = elim (cases_Bool (holds_at rank uid x)) as (
     or-second : (a b : Bool) → b ≡ true → (a || b) ≡ true
     or-second true b t = refl
     or-second false b t = t
+
     later : IsHeld rank uid xs → IsHeld rank uid (x ∷ xs)
     later rest = record { range = rest.range; holds = rest.holds; there = or-second (same_ranked x rest.range) (has_ranked xs rest.range) rest.there }
 
@@ -116,6 +118,7 @@ users-lead class index ns rises leads =
         let parts = and_parts (class_of n.kind == class) (holds_rank k.0 k.1 (ranges_of n.kind)) e in
         let it = some-held k.0 k.1 (ranges_of n.kind) parts.1 in
         held-owner k.0 k.1 n.id it.range index rises (h it.range (and_from (class_of n.kind == class) (has_ranked (ranges_of n.kind) it.range) parts.0 it.there)) it.holds
+
     less : (k : ℕ × ℕ) (r : Ranked) → holds_at k.0 k.1 r ≡ true → (m : Network) → has_user class m k ≡ false → has_range class m r ≡ false
     less k r holds m free = elim (cases_Bool (class_of m.kind == class)) as (λ _. has_range class m r ≡ false) [
       | inl e ↦

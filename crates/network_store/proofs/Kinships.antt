@@ -1,16 +1,14 @@
 -- The ranges of networks, and to which of them they belong, as one network comes, goes or is changed.
-use Rattle.std.proofs.Common.{◌≡◌, ℕ, ◌==◌, ◌||◌, ◌&&◌, Bool, true, false, cond, not, List, [], ◌∷◌, ◌++◌, filter, find, Option, Some, None, nat_eq, refl, sym, ap, subst, ◌∙◌, inl, inr}
+use Rattle.std.proofs.Common.{◌≡◌, ℕ, ◌==◌, ◌||◌, ◌&&◌, Bool, true, false, cond, not, List, [], ◌∷◌, ◌++◌, Some, None, refl, sym, ap, subst, ◌∙◌, inl, inr}
 use Rattle.std.specs.List.{list_any}
-use Rattle.std.specs.Map.{lookup}
-use Rattle.std.specs.Option.{option_map}
-use Rattle.std.proofs.lemmas.Bool.{cases_Bool, and_parts, and_from, or_parts, or_from, both_ways, eqb-true, eq-eqb, false≢true}
+use Rattle.std.proofs.lemmas.Bool.{cases_Bool, and_parts, and_from, both_ways, eqb-true, eq-eqb, false≢true}
 use Rattle.std.proofs.lemmas.List.Folds.{list_any-append}
 use Rattle.std.proofs.lemmas.Option.{none-some, same_Some}
 use Rattle.list_lemmas.proofs.Anys.{none-weaker}
 use Rattle.fwmark.specs.declared.permission.Permission.{Permission}
 use Rattle.networks.specs.Kinds.{class_of, ranges_of}
 use Rattle.networks.specs.Lists.{find_id, drop_net, AreKeyed}
-use Rattle.networks.specs.Network.{has_link}
+use Rattle.networks.specs.Network.{has_link, local_network}
 use Rattle.networks.specs.declared.kind.Kind.{Kind}
 use Rattle.networks.specs.declared.kind.Kind.TheVariants as kind
 use Rattle.networks.specs.declared.network.Network.{Network}
@@ -22,8 +20,9 @@ use Rattle.uid_ranges.specs.declared.ranked.Ranked.{Ranked}
 use Rattle.network_store.specs.Kin.{kin_meet}
 use Rattle.network_store.specs.Owners.{LeadsToOwner}
 use Rattle.network_store.specs.RankIndex.{any_meets, has_among, has_ranked, owner_of, same_ranked}
-use Rattle.network_store.specs.Store.{with_net, has_range, FindOwners}
-use Rattle.network_store.specs.Stored.{kind_with, kind_without, kind_needing, with_permission, with_ranges, without_ranges}
+use Rattle.network_store.specs.Store.{with_net, has_range, FindOwners, AreIndexed}
+use Rattle.network_store.specs.Stored.{net_of, kind_with, kind_without, kind_needing, with_permission, with_ranges, without_ranges}
+use Rattle.network_store.specs.declared.network.StoredNetwork.{StoredNetwork}
 use Rattle.network_store.specs.declared.rank_index.OwnedRange.{OwnedRange}
 use Rattle.network_store.proofs.Owned.{same_ranked-Decides, at_rank, clash-self, any-owned}
 use Rattle.list_lemmas.proofs.Numbers.{eqb-refl}
@@ -86,6 +85,7 @@ with-more class rank more kind.Local r some = by (0 == class) (zero-other class 
   where
     zero-other : (c : ℕ) → (c == 0) ≡ false → (0 == c) ≡ false
     zero-other c h = elim (cases_Bool (0 == c)) as (λ _. (0 == c) ≡ false) [ inl t ↦ absurd (both_ways (c == 0) h (eq-eqb c 0 (sym (eqb-true 0 c t)))) | inr f ↦ f ]
+
     by : (b : Bool) → b ≡ false → (b && false) ≡ ((b && false) || (b && has_ranked (all_at rank more) r))
     by b is = rw is refl
 with-more class rank more (kind.Physical needed apps) r some = ap (λ b. (1 == class) && b) (list_any-append (λ one. same_ranked one r) apps (all_at rank more)) ∙ and-or (1 == class) (has_ranked apps r) (has_ranked (all_at rank more) r)
@@ -130,6 +130,7 @@ in-all rank (u ∷ us) r there = elim (cases_Bool (same_ranked (at_rank rank u) 
   where
     or-first : (a b : Bool) → a ≡ true → (a || b) ≡ true
     or-first a b h = rw h refl
+
     or-second : (a b : Bool) → b ≡ true → (a || b) ≡ true
     or-second true b h = refl
     or-second false b h = h
@@ -214,3 +215,26 @@ leave-less class id gone n ns index index' found taken keyed leads =
         let there = and_parts (has gone r.users) (has_ranked (ranges_of n.kind) r) (sym (among-is gone (ranges_of n.kind) r) ∙ parts.1) in
         let owned = owned-at (has_range class) (owner_of index) id ns n leads.owned found r (and_from (class_of n.kind == class) (has_ranked (ranges_of n.kind) r) parts.0 there.1) in
         same_Some i id (sym is ∙ owned ∙ ap (λ j. Some j) (sym (id-found id ns n found)))
+
+-- the local network alone
+pub indexed-start : (es : List (ℕ × StoredNetwork)) (by_link : List (ℕ × ℕ)) (users apps : List OwnedRange) (n : StoredNetwork) → es ≡ (99, n) ∷ [] → by_link ≡ [] → users ≡ [] → apps ≡ [] → n.id ≡ 99 → net_of n ≡ local_network
+    → AreIndexed es by_link users apps
+indexed-start es by_link users apps n entries no_links no_users no_apps id local =
+    subst (λ xs. AreIndexed xs by_link users apps) (sym entries)
+    (subst (λ xs. AreIndexed ((99, n) ∷ []) xs users apps) (sym no_links)
+    (subst (λ xs. AreIndexed ((99, n) ∷ []) [] xs apps) (sym no_users)
+    (subst (λ xs. AreIndexed ((99, n) ∷ []) [] [] xs) (sym no_apps) whole)))
+  where
+    nothing : FindOwners [] [] [] []
+    nothing = record {
+      of_link = record { owned = tt; unowned = λ k none. refl };
+      of_users = record { owned = tt; unowned = λ k none. refl };
+      of_apps = record { owned = tt; unowned = λ k none. refl };
+    }
+
+    whole : AreIndexed ((99, n) ∷ []) [] [] []
+    whole = record {
+      at_ids = (sym id, tt);
+      keyed = refl;
+      owners = owners-come [] [] [] [] (net_of n) (ap (λ (m : Network). m.interfaces) local) (ap (λ (m : Network). ranges_of m.kind) local) nothing;
+    }

@@ -1,7 +1,6 @@
 -- What interfaces a network has with one more and one fewer.
-use Rattle.std.proofs.Common.{◌≡◌, ℕ, ◌==◌, ◌||◌, ◌&&◌, Bool, true, false, not, List, [], ◌∷◌, ◌++◌, filter, find, is_some, nat_eq, Option, Some, None, refl, sym, ap, ◌∙◌, inl, inr}
+use Rattle.std.proofs.Common.{◌≡◌, ℕ, ◌==◌, ◌||◌, ◌&&◌, Bool, true, false, not, List, [], ◌∷◌, filter, nat_eq, Option, Some, None, refl, sym, ap, ◌∙◌, inl, inr}
 use Rattle.std.specs.List.{list_any}
-use Rattle.std.specs.Option.{option_map}
 use Rattle.std.proofs.lemmas.Bool.{cases_Bool, or_from, eqb-true, both_ways}
 use Rattle.std.proofs.lemmas.List.Folds.{list_any-append}
 use Rattle.std.proofs.lemmas.Option.{none-some, same_Some}
@@ -39,6 +38,7 @@ without link q (i ∷ is) =
     drops true false = refl
     drops false true = refl
     drops false false = refl
+
     unlike : (b : Bool) → nat_eq link q ≡ b → (i == q) ≡ true → (i == link) ≡ false → b ≡ false
     unlike false is here stays = refl
     unlike true is here stays = absurd (both_ways (i == link) stays (ap (λ j. i == j) (eqb-true link q is) ∙ here))

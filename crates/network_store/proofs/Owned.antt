@@ -1,8 +1,7 @@
 -- To which network each range belongs, with one range more and one fewer.
-use Rattle.std.proofs.Common.{◌≡◌, ℕ, ◌+◌, ◌==◌, ◌&&◌, ◌||◌, Bool, true, false, cond, not, List, [], ◌∷◌, ◌++◌, take, slice_get, filter, find, Option, Some, None, if◌then◌else◌, refl, sym, ap, subst, ◌∙◌, arith, inl, inr}
+use Rattle.std.proofs.Common.{◌≡◌, ℕ, ◌+◌, ◌==◌, ◌&&◌, ◌||◌, Bool, true, false, cond, not, List, [], ◌∷◌, ◌++◌, take, slice_get, filter, Option, Some, None, refl, sym, ap, ◌∙◌, arith, inl, inr}
 use Rattle.std.specs.Bool.{Decides}
 use Rattle.std.specs.List.{list_any}
-use Rattle.std.specs.Option.{option_map}
 use Rattle.std.proofs.lemmas.Bool.{cases_Bool, and_parts, and_from, or_parts, or_from, both_ways, false_from_ne_true, eqb-true, false≢true}
 use Rattle.std.proofs.lemmas.Bool.Decides.{nat_tests}
 use Rattle.list_lemmas.proofs.Found.{found-filter}
@@ -22,6 +21,7 @@ same_ranked-Decides a b = (to, from)
   where
     to : same_ranked a b ≡ true → a ≡ b
     to h = let parts = and_parts (a.rank == b.rank) (same_range a.users b.users) h in λ i. record { users = same_range-true a.users b.users parts.1 i; rank = eqb-true a.rank b.rank parts.0 i }
+
     from : a ≡ b → same_ranked a b ≡ true
     from e = ap (same_ranked a) (sym e) ∙ and_from (a.rank == a.rank) (same_range a.users a.users) (eqb-refl a.rank) (same_range-self a.users)
 
@@ -115,6 +115,7 @@ more-owned rank owner more i u now next old r at put so_far =
     all-push : (xs : List UidRange) → has_ranked (all_at rank (xs ++ u ∷ [])) r ≡ (has_ranked (all_at rank xs) r || same_ranked (at_rank rank u) r)
     all-push [] = or-false (same_ranked (at_rank rank u) r)
     all-push (x ∷ xs) = ap (λ b. same_ranked (at_rank rank x) r || b) (all-push xs) ∙ or-within (same_ranked (at_rank rank x) r) (has_ranked (all_at rank xs) r) (same_ranked (at_rank rank u) r)
+
     joined : has_ranked (all_at rank (take (i + 1) more)) r ≡ (has_ranked (all_at rank (take i more)) r || same_ranked (at_rank rank u) r)
     joined = ap (λ xs. has_ranked (all_at rank xs) r) (take-next more i u at) ∙ all-push (take i more)
 

@@ -6,7 +6,6 @@ use Rattle.std.proofs.lemmas.Bool.{cases_Bool, and_parts, and_from, or_parts, or
 use Rattle.std.proofs.lemmas.List.Folds.{list_any-append}
 use Rattle.std.proofs.lemmas.Option.{none-some, same_Some}
 use Rattle.list_lemmas.proofs.Alls.{all-push}
-use Rattle.list_lemmas.proofs.Anys.{none-push}
 use Rattle.list_lemmas.proofs.Found.{find-none-any}
 use Rattle.networks.specs.Lists.{find_id, drop_net, are_distinct, AreKeyed}
 use Rattle.networks.specs.declared.network.Network.{Network}

@@ -1,16 +1,12 @@
 -- Ranges in rising order: the place of a UID, and the list with one range more and one fewer.
-use Rattle.std.proofs.Common.{◌≡◌, ℕ, zero, suc, ◌+◌, ◌<◌, ◌≤◌, ◌==◌, ◌&&◌, Bool, true, false, cond, not, List, [], ◌∷◌, ◌++◌, length, get_or, filter, find, take, drop, slice_get, Option, Some, None, nat_lt, nat_le, if◌then◌else◌, refl, sym, ap, subst, ◌∙◌, arith, inl, inr}
-use Rattle.std.specs.Bool.{Decides}
+use Rattle.std.proofs.Common.{◌≡◌, ℕ, zero, suc, ◌+◌, ◌<◌, ◌≤◌, Bool, true, false, cond, not, List, [], ◌∷◌, length, get_or, filter, find, slice_get, Option, Some, None, nat_lt, nat_le, if◌then◌else◌, refl, sym, ap, ◌∙◌, arith, inl, inr}
 use Rattle.std.specs.List.{list_any, list_all, prefix_len, insert, remove}
 use Rattle.std.specs.List.Sorted.{IsPartitionedBy}
-use Rattle.std.proofs.lemmas.Bool.{cases_Bool, and_parts, and_from, or_parts, not-true, not_from_false, both_ways, eqb-true, eq-eqb, ltb-true, ltb-false}
+use Rattle.std.proofs.lemmas.Bool.{cases_Bool, and_parts, and_from, or_parts, both_ways, ltb-true, ltb-false}
 use Rattle.std.proofs.lemmas.Bool.Decides.{nat_tests}
-use Rattle.std.proofs.lemmas.Option.{none-some, same_Some}
-use Rattle.list_lemmas.specs.Pairwise.{pairwise}
 use Rattle.list_lemmas.proofs.Anys.{filter-others}
 use Rattle.list_lemmas.proofs.Found.{find-none-any}
 use Rattle.uid_ranges.specs.declared.ranked.Ranked.{Ranked}
-use Rattle.uid_ranges.specs.declared.range.UidRange.{UidRange}
 use Rattle.network_store.specs.RankIndex.{ends_before, holds_at, same_ranked, clash, comes_before, rise, are_low, put}
 use Rattle.network_store.specs.declared.rank_index.OwnedRange.{OwnedRange}
 
@@ -101,6 +97,7 @@ put-insert one (x ∷ xs) = step (comes_before x one) (prefix_len (λ e. ends_be
   where
     one-add : (n : ℕ) → suc n ≡ 1 + n
     one-add n = omega arith
+
     step : (b : Bool) (n : ℕ) → put one xs ≡ insert xs n one → cond b (x ∷ put one xs) (one ∷ x ∷ xs) ≡ insert (x ∷ xs) (cond b (1 + n) 0) one
     step true n e = rw (← one-add n) (ap (λ l. x ∷ l) e)
     step false n e = refl
@@ -169,14 +166,17 @@ filter-cut r (x ∷ xs) rises =
       | inl s ↦ absurd (both_ways (ends_before r.rank r.users.first.number a) (same-ends a r s) h)
       | inr s ↦ s
     ]
+
     one-more : (n : ℕ) → suc n ≡ 1 + n
     one-more n = omega arith
+
     by : (n : ℕ) (o : Option OwnedRange) → slice_get xs n ≡ o → x ∷ (elim o [ Some e ↦ if same_ranked e.range r then remove xs n else xs | None ↦ xs ]) ≡ elim o [ Some e ↦ if same_ranked e.range r then remove (x ∷ xs) (suc n) else (x ∷ xs) | None ↦ x ∷ xs ]
     by n None is = refl
     by n (Some e) is = elim (cases_Bool (same_ranked e.range r)) as (λ _. x ∷ (if same_ranked e.range r then remove xs n else xs) ≡ (if same_ranked e.range r then remove (x ∷ xs) (suc n) else (x ∷ xs))) [
       | inl s ↦ rw s refl
       | inr s ↦ rw s refl
     ]
+
     step : (n : ℕ) → x ∷ cut r xs n ≡ cut r (x ∷ xs) (1 + n)
     step n = by n (slice_get xs n) refl ∙ ap (cut r (x ∷ xs)) (one-more n)
 

@@ -1,5 +1,5 @@
 -- Ranges with the networks to which they belong, in rising order of rank and, of one rank, of UIDs.
-use Rattle.std.specs.Prelude.{◌≡◌, ℕ, ◌==◌, ◌&&◌, ◌||◌, Bool, List, [], ◌∷◌, Option, Some, None, ◌<◌, nat_lt, nat_le, find, if◌then◌else◌}
+use Rattle.std.specs.Prelude.{◌≡◌, ℕ, ◌==◌, ◌&&◌, Bool, List, [], ◌∷◌, Option, Some, None, ◌<◌, nat_lt, nat_le, find, if◌then◌else◌}
 use Rattle.std.specs.List.{list_all, list_any}
 use Rattle.std.specs.Option.{option_map}
 use Rattle.list_lemmas.specs.Pairwise.{pairwise}

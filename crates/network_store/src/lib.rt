@@ -2,10 +2,13 @@
 #![tactic(auto)]
 
 mod network;
-mod rank_index;
 mod ranges;
+mod rank_index;
 mod store;
 
 pub use network::{MOST_INTERFACES, StoredKind, StoredNetwork};
 pub use ranges::StoredRanges;
 pub use store::StoredNetworks;
+
+#[cfg(test)]
+mod tests;

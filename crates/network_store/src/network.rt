@@ -136,7 +136,8 @@ impl StoredKind {
         requires in_range { rank ≤ last_rank }
         requires disjoint { AreDisjoint more.now }
         requires apart { users_meet (ranges_of (stored.kind_of self.old)) more.now ≡ false }
-        ensures { stored.kind_of self.new ≡ stored.kind_with rank more.now (stored.kind_of self.old) }
+        ensures { stored.kind_of self.new ≡
+            stored.kind_with rank more.now (stored.kind_of self.old) }
     {
         match self {
             StoredKind::Local => {}
@@ -186,7 +187,8 @@ impl StoredNetwork {
     }
 
     pub(crate) fn set_permission(&mut self, permission: Permission)
-        ensures net { stored.net_of self.new ≡ stored.with_permission permission (stored.net_of self.old) }
+        ensures net { stored.net_of self.new ≡
+            stored.with_permission permission (stored.net_of self.old) }
         ensures same_id { self.new.id ≡ self.old.id }
     {
         self.kind.set_permission(permission);
@@ -218,7 +220,8 @@ impl StoredNetwork {
 
     pub(crate) fn add_route(&mut self, route: LinkRoute)
         requires room { stored.HasRouteRoom self.old }
-        requires fresh { list_any (is_keyed_by route.link route.route) (stored.net_of self.old).routes ≡ false }
+        requires fresh { list_any (is_keyed_by route.link route.route)
+            (stored.net_of self.old).routes ≡ false }
         ensures net { stored.net_of self.new ≡ stored.with_route route (stored.net_of self.old) }
         ensures same_id { self.new.id ≡ self.old.id }
     {
@@ -226,7 +229,8 @@ impl StoredNetwork {
     }
 
     pub(crate) fn remove_route(&mut self, link: u16, key: &Route)
-        ensures net { stored.net_of self.new ≡ stored.without_route link key.now (stored.net_of self.old) }
+        ensures net { stored.net_of self.new ≡
+            stored.without_route link key.now (stored.net_of self.old) }
         ensures same_id { self.new.id ≡ self.old.id }
     {
         self.routes.remove(link, key);
@@ -245,14 +249,16 @@ impl StoredNetwork {
         requires in_range { rank ≤ last_rank }
         requires disjoint { AreDisjoint more.now }
         requires apart { users_meet (ranges_of (stored.net_of self.old).kind) more.now ≡ false }
-        ensures net { stored.net_of self.new ≡ stored.with_ranges rank more.now (stored.net_of self.old) }
+        ensures net { stored.net_of self.new ≡
+            stored.with_ranges rank more.now (stored.net_of self.old) }
         ensures same_id { self.new.id ≡ self.old.id }
     {
         self.kind.add_ranges(more, rank);
     }
 
     pub(crate) fn remove_ranges(&mut self, gone: &[UidRange])
-        ensures net { stored.net_of self.new ≡ stored.without_ranges gone.now (stored.net_of self.old) }
+        ensures net { stored.net_of self.new ≡
+            stored.without_ranges gone.now (stored.net_of self.old) }
         ensures same_id { self.new.id ≡ self.old.id }
     {
         self.kind.remove_ranges(gone);

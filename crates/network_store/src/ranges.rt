@@ -19,18 +19,21 @@ impl Model for StoredRanges {
 
     ghost Value = { RangesView };
 
-    ghost view = { λ s. record { ranges = s.ranges.items; room = vec_capacity s.ranges - vec_len s.ranges } };
+    ghost view = { λ s. record {
+      ranges = s.ranges.items;
+      room = vec_capacity s.ranges - vec_len s.ranges;
+    } };
 
     ghost invariant = { λ s. are_ranked s.ranges.items ≡ true };
 }
 
-fn ranked(users: UidRange, rank: u8) -> Ranked
+pub(crate) fn ranked(users: UidRange, rank: u8) -> Ranked
     ensures { result ≡ record { users = users; rank = rank } }
 {
     Ranked { users, rank }
 }
 
-fn is_among(one: &Ranked, list: &[UidRange]) -> bool
+pub(crate) fn is_among(one: &Ranked, list: &[UidRange]) -> bool
     ensures { result ≡ has list.now one.now.users }
 {
     list.iter().any(|other| one.users.is_same(other))

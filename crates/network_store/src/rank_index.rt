@@ -1,10 +1,11 @@
 ghost use Rattle.std.specs.Prelude.{◌≡◌, ℕ, ◌≤◌, ◌<◌, ◌+◌, [], None, Some, true, false, cond, filter, not, find, length, slice_get, OnOk, IfSome, IfNone, vec_len, vec_capacity};
 ghost use Rattle.std.specs.List.{list_any, prefix_len};
-ghost use Rattle.uid_ranges.specs.Ranges.{AreDisjoint, has};
+ghost use Rattle.uid_ranges.specs.Ranges.{AreDisjoint};
 ghost use Rattle.uid_ranges.specs.Ranks.{last_rank, all_at};
 ghost use Rattle.uid_ranges.specs.declared.ranked.Ranked.{Ranked};
 ghost use Rattle.network_store.specs.RankIndex.{ends_before, holds_at, same_ranked, clash, rise, put, owner_of, owner_at, IsFirstOwner, are_low, any_meets, has_ranked, has_among};
 
+use crate::ranges::{is_among, ranked};
 use std::alloc::{AllocError, Global};
 use std::marker::Model;
 use uid_ranges::{LAST_RANK, Ranked, Uid, UidRange};
@@ -29,7 +30,10 @@ impl Model for RankIndex {
 
     ghost Value = { RankIndexView };
 
-    ghost view = { λ i. record { ranges = i.ranges.items; room = vec_capacity i.ranges - vec_len i.ranges } };
+    ghost view = { λ i. record {
+      ranges = i.ranges.items;
+      room = vec_capacity i.ranges - vec_len i.ranges;
+    } };
 
     ghost invariant = { λ i. (rise i.ranges.items ≡ true) × (are_low i.ranges.items ≡ true) };
 }
@@ -65,18 +69,6 @@ fn place_of(ranges: &[OwnedRange], rank: u8, uid: Uid) -> usize
     ensures place { result ≡ prefix_len (λ e. ends_before rank uid.number e.range) ranges.now }
 {
     ranges.partition_point(|one| one.ends_before(rank, uid))
-}
-
-fn ranked(users: UidRange, rank: u8) -> Ranked
-    ensures { result ≡ record { users = users; rank = rank } }
-{
-    Ranked { users, rank }
-}
-
-fn is_among(one: &Ranked, list: &[UidRange]) -> bool
-    ensures { result ≡ has list.now one.now.users }
-{
-    list.iter().any(|other| one.users.is_same(other))
 }
 
 fn range_at(ranges: &[OwnedRange], place: usize) -> Option<OwnedRange>
@@ -119,7 +111,8 @@ impl RankIndex {
     // The network that has the range of the lowest rank which holds the UID.
     pub(crate) fn first_owner(&self, uid: Uid) -> Option<u16>
         ensures first { IfSome result (IsFirstOwner uid.number self.now.ranges) }
-        ensures none { IfNone result ((rank : ℕ) → owner_at rank uid.number self.now.ranges ≡ None) }
+        ensures none { IfNone result ((rank : ℕ) →
+            owner_at rank uid.number self.now.ranges ≡ None) }
         ensures rises { rise self.now.ranges ≡ true }
     {
         for rank in 0..LAST_RANK + 1 {

@@ -3,7 +3,7 @@ ghost use Rattle.std.specs.List.{list_any};
 ghost use Rattle.std.specs.Map.{lookup};
 ghost use Rattle.std.specs.Option.{option_map, IfSome};
 ghost use Rattle.networks.specs.Kinds.{class_of, ranges_of};
-ghost use Rattle.networks.specs.Lists.{find_id, find_link, drop_net};
+ghost use Rattle.networks.specs.Lists.{find_id, find_link, drop_net, AreKeyed};
 ghost use Rattle.networks.specs.Network.{has_link, is_keyed_by, local_network};
 ghost use Rattle.networks.specs.declared.kind.Kind.TheVariants as kind;
 ghost use Rattle.uid_ranges.specs.Ranges.{AreDisjoint};
@@ -16,8 +16,8 @@ ghost use Rattle.network_store.specs.Stored as stored;
 ghost use Rattle.network_store.specs.Store as store;
 
 use crate::network::{StoredKind, StoredNetwork};
-use crate::rank_index::RankIndex;
 use crate::ranges::StoredRanges;
+use crate::rank_index::RankIndex;
 use fwmark::Permission;
 use indexmap::IndexMap;
 use networks::{LOCAL_ID, LinkRoute};
@@ -99,11 +99,11 @@ fn enter(
 fn leave(users: &mut RankIndex, apps: &mut RankIndex, kind: &StoredKind, gone: &[UidRange])
     ensures users { (r : Ranked) → owner_of users.new.ranges r ≡
         cond ((class_of (stored.kind_of kind.now) == 2) &&
-            has_among gone.now (ranges_of (stored.kind_of kind.now)) r)
+        has_among gone.now (ranges_of (stored.kind_of kind.now)) r)
         None (owner_of users.old.ranges r) }
     ensures apps { (r : Ranked) → owner_of apps.new.ranges r ≡
         cond ((class_of (stored.kind_of kind.now) == 1) &&
-            has_among gone.now (ranges_of (stored.kind_of kind.now)) r)
+        has_among gone.now (ranges_of (stored.kind_of kind.now)) r)
         None (owner_of apps.old.ranges r) }
 {
     match kind {
@@ -117,11 +117,11 @@ fn leave(users: &mut RankIndex, apps: &mut RankIndex, kind: &StoredKind, gone: &
 fn leave_all(users: &mut RankIndex, apps: &mut RankIndex, kind: &StoredKind)
     ensures users { (r : Ranked) → owner_of users.new.ranges r ≡
         cond ((class_of (stored.kind_of kind.now) == 2) &&
-            has_ranked (ranges_of (stored.kind_of kind.now)) r)
+        has_ranked (ranges_of (stored.kind_of kind.now)) r)
         None (owner_of users.old.ranges r) }
     ensures apps { (r : Ranked) → owner_of apps.new.ranges r ≡
         cond ((class_of (stored.kind_of kind.now) == 1) &&
-            has_ranked (ranges_of (stored.kind_of kind.now)) r)
+        has_ranked (ranges_of (stored.kind_of kind.now)) r)
         None (owner_of apps.old.ranges r) }
 {
     match kind {
@@ -149,7 +149,8 @@ impl StoredNetworks {
 
     /// How many networks there are.
     pub fn len(&self) -> usize
-        ensures { result ≡ length (store.nets_of self.now) }
+        ensures count { result ≡ length (store.nets_of self.now) }
+        ensures keyed { AreKeyed (store.nets_of self.now) }
     {
         self.by_id.len()
     }
@@ -401,7 +402,14 @@ impl StoredNetworks {
         let Some(network) = self.by_id.get_mut(&id) else {
             return;
         };
-        enter(&mut self.users, &mut self.apps, &network.kind, more, rank, id);
+        enter(
+            &mut self.users,
+            &mut self.apps,
+            &network.kind,
+            more,
+            rank,
+            id,
+        );
         network.add_ranges(more, rank);
     }
 

@@ -22,7 +22,10 @@ impl Model for RouteSlots {
 
     ghost Value = { RoutesView };
 
-    ghost view = { λ r. record { routes = present r.slots.items; room = room_of r.slots r.places } };
+    ghost view = { λ r. record {
+      routes = present r.slots.items;
+      room = room_of r.slots r.places;
+    } };
 
     ghost invariant = { λ r. IsPlaced r.slots.items r.places.entries };
 }
@@ -71,7 +74,8 @@ fn clear_slot(
     key: &RouteKey,
 )
     requires placed { IsPlaced slots.old.items places.old.entries }
-    requires there { (route : LinkRoute) × (slice_get slots.old.items place ≡ Some (Some route)) × (key.now ≡ key_of route) }
+    requires there { (route : LinkRoute) ×
+        (slice_get slots.old.items place ≡ Some (Some route)) × (key.now ≡ key_of route) }
     ensures placed { IsPlaced slots.new.items places.new.entries }
     ensures slots { slots.new.items ≡ slice_set slots.old.items place None }
 {
@@ -89,7 +93,8 @@ fn clear_if_linked(
     requires placed { IsPlaced slots.old.items places.old.entries }
     requires within { place < vec_len slots.old }
     ensures placed { IsPlaced slots.new.items places.new.entries }
-    ensures slots { slots.new.items ≡ slice_set slots.old.items place (unlinked link (slice_index_or slots.old.items place None)) }
+    ensures slots { slots.new.items ≡ slice_set slots.old.items place
+        (unlinked link (slice_index_or slots.old.items place None)) }
 {
     match slots[place] {
         Some(route) if route.link == link => {
@@ -193,7 +198,8 @@ impl RouteSlots {
     // Puts a route after the others, in the room that is there.
     pub(crate) fn add(&mut self, route: LinkRoute)
         requires room { 0 < self.old.room }
-        requires fresh { list_any (λ r. same_route_key (key_of r) (key_of route)) self.old.routes ≡ false }
+        requires fresh { list_any (λ r. same_route_key (key_of r) (key_of route))
+            self.old.routes ≡ false }
         ensures routes { self.new.routes ≡ self.old.routes ++ route ∷ [] }
         ensures room { self.old.room ≤ self.new.room + 1 }
         ensures small { length self.new.routes < 2 ^ 63 }
@@ -205,7 +211,8 @@ impl RouteSlots {
 
     // Takes the route of this key out.
     pub(crate) fn remove(&mut self, key: &RouteKey)
-        ensures { self.new.routes ≡ filter (λ r. not (same_route_key (key_of r) key.now)) self.old.routes }
+        ensures { self.new.routes ≡
+            filter (λ r. not (same_route_key (key_of r) key.now)) self.old.routes }
     {
         let Some(place) = self.places.get(key).copied() else {
             return;

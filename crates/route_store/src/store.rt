@@ -29,7 +29,10 @@ impl Model for RouteStore {
 
     ghost Value = { RoutesView };
 
-    ghost view = { λ s. record { routes = s.routes.routes; room = min s.routes.room (spare s.counts) } };
+    ghost view = { λ s. record {
+      routes = s.routes.routes;
+      room = min s.routes.room (spare s.counts);
+    } };
 
     ghost invariant = { λ s. IsCounted s.routes.routes s.counts.entries };
 }

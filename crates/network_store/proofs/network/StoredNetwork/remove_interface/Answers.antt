@@ -1,6 +1,5 @@
-use Rattle.std.proofs.Common.{◌≡◌, ◌==◌, ℕ, not, filter, List, rules, ap}
+use Rattle.std.proofs.Common.{◌≡◌, ◌==◌, not, filter, rules}
 use Rattle.arrayvec.proofs.ArrayVecLemmas.{filter-from_retain}
-use Rattle.networks.specs.declared.network.LinkRoute.{LinkRoute}
 use Rattle.network_store.specs.Stored as stored
 use Rattle.network_store.proofs.network.StoredNetwork.remove_interface.Goals as goal
 

@@ -1,4 +1,4 @@
-use Rattle.std.proofs.Common.{◌≡◌, ◌∙◌, ap, sym, arith, true, false, nat_le}
+use Rattle.std.proofs.Common.{◌≡◌, ◌∙◌, ap, arith, true, false, nat_le}
 use Rattle.std.proofs.lemmas.Bool.Decides.{nat_tests}
 use Rattle.uid_ranges.specs.Ranks.{users_meet, are_ranked}
 use Rattle.uid_ranges.proofs.RankedLists.{are_ranked-more}

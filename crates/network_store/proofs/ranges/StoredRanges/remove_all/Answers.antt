@@ -1,4 +1,4 @@
-use Rattle.std.proofs.Common.{◌≡◌, ◌∙◌, not, filter, ap, rules}
+use Rattle.std.proofs.Common.{◌≡◌, ◌∙◌, not, ap, rules}
 use Rattle.std.proofs.lemmas.Fn.{filter_same}
 use Rattle.uid_ranges.specs.Ranges.{has}
 use Rattle.uid_ranges.specs.Ranks.{ranked_without, are_ranked}

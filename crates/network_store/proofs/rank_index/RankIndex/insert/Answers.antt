@@ -1,4 +1,4 @@
-use Rattle.std.proofs.Common.{◌≡◌, ◌<◌, ◌∙◌, ℕ, cond, Some, sym, ap, subst, true, false, nat_le, arith, vec_len, vec_capacity}
+use Rattle.std.proofs.Common.{◌≡◌, ◌<◌, ◌∙◌, cond, Some, sym, ap, subst, true, false, nat_le, arith, vec_len, vec_capacity}
 use Rattle.std.specs.List.{list_any, insert, prefix_len}
 use Rattle.std.proofs.lemmas.Bool.Decides.{nat_tests}
 use Rattle.list_lemmas.proofs.Found.{then-at_ok}
@@ -14,9 +14,9 @@ placed c =
     let some = subst (λ (v : RankIndexView). 0 < v.room) (sym c.self.view_is) c.requires.room in
     let room : vec_len c.self.inside.ranges < vec_capacity c.self.inside.ranges = omega (arith, some) in
     let place : c.place_of-place.result ≡ prefix_len (λ (e : OwnedRange). ends_before c.args.range.rank c.args.range.users.first.number e.range) c.self.inside.ranges.items =
-        c.place_of-place.ensures.place
-        ∙ ap (λ n. prefix_len (λ (e : OwnedRange). ends_before c.args.range.rank n e.range) c.deref.result.now) (ap (λ u. u.number) c.first.ensures)
-        ∙ ap (prefix_len (λ (e : OwnedRange). ends_before c.args.range.rank c.args.range.users.first.number e.range)) c.deref.ensures.value in
+    c.place_of-place.ensures.place
+    ∙ ap (λ n. prefix_len (λ (e : OwnedRange). ends_before c.args.range.rank n e.range) c.deref.result.now) (ap (λ u. u.number) c.first.ensures)
+    ∙ ap (prefix_len (λ (e : OwnedRange). ends_before c.args.range.rank c.args.range.users.first.number e.range)) c.deref.ensures.value in
     c.insert.ensures.items ∙ then-at_ok c.insert.result _ _ (c.insert.ensures.succeeds room) ∙ ap (λ p. insert c.self.inside.ranges.items p one) place ∙ sym (put-insert one c.self.inside.ranges.items)
 
 pub invariant_of-self : goal.invariant_of-self
@@ -36,5 +36,5 @@ returns-clause-owners c =
     let apart = subst (λ (v : RankIndexView). list_any (λ e. clash e.range c.args.range) v.ranges ≡ false) (sym c.self.view_is) c.requires.apart in
     let one : OwnedRange = record { range = c.args.range; owner = c.args.owner } in
     λ r.
-        ap (λ xs. owner_of xs r) (placed c) ∙ owner-put one c.self.inside.ranges.items apart r
-        ∙ ap (λ (v : RankIndexView). cond (same_ranked c.args.range r) (Some c.args.owner) (owner_of v.ranges r)) c.self.view_is
+    ap (λ xs. owner_of xs r) (placed c) ∙ owner-put one c.self.inside.ranges.items apart r
+    ∙ ap (λ (v : RankIndexView). cond (same_ranked c.args.range r) (Some c.args.owner) (owner_of v.ranges r)) c.self.view_is

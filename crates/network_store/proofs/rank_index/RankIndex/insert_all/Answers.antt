@@ -1,13 +1,12 @@
-use Rattle.std.proofs.Common.{◌≡◌, ◌∙◌, ◌≤◌, ◌+◌, ◌∷◌, ◌||◌, ℕ, List, cond, Some, false, length, drop, slice_get, sym, ap, subst, refl, arith}
+use Rattle.std.proofs.Common.{◌≡◌, ◌∙◌, ◌+◌, cond, Some, false, length, drop, slice_get, sym, ap, subst, refl, arith}
 use Rattle.std.specs.List.{list_any}
 use Rattle.std.proofs.lemmas.Bool.{or_parts}
 use Rattle.std.proofs.lemmas.Option.{slice_get_read}
 use Rattle.list_lemmas.proofs.Places.{drop-next}
 use Rattle.uid_ranges.specs.Ranges.{meets_any, self_meets, AreDisjoint}
-use Rattle.uid_ranges.specs.declared.range.UidRange.{UidRange}
 use Rattle.uid_ranges.specs.declared.ranked.Ranked.{Ranked}
 use Rattle.network_store.specs.RankIndex.{owner_of, clash, put, any_meets, same_ranked}
-use Rattle.network_store.proofs.Owned.{at_rank, meets-head, meets-put, more-owned}
+use Rattle.network_store.proofs.Owned.{meets-head, meets-put, more-owned}
 use Rattle.network_store.proofs.rank_index.RankIndex.insert_all.Goals as goal
 
 pub insert-requires-clause-apart : goal.insert-requires-clause-apart

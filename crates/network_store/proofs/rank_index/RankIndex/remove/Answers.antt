@@ -1,4 +1,4 @@
-use Rattle.std.proofs.Common.{◌≡◌, ◌∙◌, ℕ, sym, ap, subst, true, false, not, filter, refl, arith, slice_get, List, Option, Some, None, if◌then◌else◌}
+use Rattle.std.proofs.Common.{◌≡◌, ◌∙◌, sym, ap, not, filter, arith, slice_get, Option, Some, None, if◌then◌else◌}
 use Rattle.std.specs.List.{prefix_len, remove}
 use Rattle.list_lemmas.proofs.Pairs.{pairwise-filter, list_all-filter}
 use Rattle.uid_ranges.specs.Ranks.{last_rank}
@@ -15,7 +15,7 @@ returns-in_default-clause-ranges c =
     let xs = c.self.inside.ranges.items in
     let r = c.args.range.now in
     let place : c.place_of-place.result ≡ prefix_len (λ (e : OwnedRange). ends_before r.rank r.users.first.number e.range) c.deref.result.now =
-        c.place_of-place.ensures.place ∙ ap (λ u. prefix_len (λ (e : OwnedRange). ends_before r.rank u.number e.range) c.deref.result.now) c.first.ensures in
+    c.place_of-place.ensures.place ∙ ap (λ u. prefix_len (λ (e : OwnedRange). ends_before r.rank u.number e.range) c.deref.result.now) c.first.ensures in
     ap (λ (v : RankIndexView). v.ranges) (sym c.self.view_is)
     ∙ sym (cut-at r xs c.deref.result.now c.deref-2.result.now c.place_of-place.result c.range_at.result c.self.invariant.0 c.deref.ensures.value c.deref-2.ensures.value place c.range_at.ensures
     ∙ ap (λ (o : Option OwnedRange). elim o [ Some e ↦ if same_ranked e.range r then remove xs c.place_of-place.result else xs | None ↦ xs ]) c.in_default.is)
@@ -27,7 +27,7 @@ gone c =
     let xs = c.self.inside.ranges.items in
     let r = c.args.range.now in
     let place : c.place_of-place.result ≡ prefix_len (λ (e : OwnedRange). ends_before r.rank r.users.first.number e.range) c.deref.result.now =
-        c.place_of-place.ensures.place ∙ ap (λ u. prefix_len (λ (e : OwnedRange). ends_before r.rank u.number e.range) c.deref.result.now) c.first.ensures in
+    c.place_of-place.ensures.place ∙ ap (λ u. prefix_len (λ (e : OwnedRange). ends_before r.rank u.number e.range) c.deref.result.now) c.first.ensures in
     c.remove.ensures.items
     ∙ sym (cut-at r xs c.deref.result.now c.deref-2.result.now c.place_of-place.result c.range_at.result c.self.invariant.0 c.deref.ensures.value c.deref-2.ensures.value place c.range_at.ensures
     ∙ ap (λ (o : Option OwnedRange). elim o [ Some e ↦ if same_ranked e.range r then remove xs c.place_of-place.result else xs | None ↦ xs ]) c.in-Some.is
@@ -48,7 +48,7 @@ returns-else-is_same-clause-ranges c =
     let xs = c.self.inside.ranges.items in
     let r = c.args.range.now in
     let place : c.place_of-place.result ≡ prefix_len (λ (e : OwnedRange). ends_before r.rank r.users.first.number e.range) c.deref.result.now =
-        c.place_of-place.ensures.place ∙ ap (λ u. prefix_len (λ (e : OwnedRange). ends_before r.rank u.number e.range) c.deref.result.now) c.first.ensures in
+    c.place_of-place.ensures.place ∙ ap (λ u. prefix_len (λ (e : OwnedRange). ends_before r.rank u.number e.range) c.deref.result.now) c.first.ensures in
     ap (λ (v : RankIndexView). v.ranges) (sym c.self.view_is)
     ∙ sym (cut-at r xs c.deref.result.now c.deref-2.result.now c.place_of-place.result c.range_at.result c.self.invariant.0 c.deref.ensures.value c.deref-2.ensures.value place c.range_at.ensures
     ∙ ap (λ (o : Option OwnedRange). elim o [ Some e ↦ if same_ranked e.range r then remove xs c.place_of-place.result else xs | None ↦ xs ]) c.in-Some.is

@@ -33,8 +33,12 @@ invariant_of-self-2 c =
     let found = find-lookup c.args.id es c.self.invariant.at_ids ∙ ap (option_map net_of) (sym c.in-Some.ensures.value) in
     subst (λ es. AreIndexed es c.insert.new.self.entries c.self.inside.users.ranges c.self.inside.apps.ranges) (sym wrote.0)
     (indexed-changed c.args.id (with_link c.args.link) (λ n. refl) es c.self.inside.by_link.entries c.insert.new.self.entries c.self.inside.users.ranges c.self.inside.users.ranges c.self.inside.apps.ranges c.self.inside.apps.ranges c.in-Some.network.now c.add_interface.new.self c.self.invariant c.in-Some.ensures.value c.add_interface.ensures.net c.add_interface.ensures.same_id
-    (record { of_link = owners-more has_link c.args.id (with_link c.args.link) (λ n. refl) (net_of c.in-Some.network.now) (λ q. nat_eq c.args.link q) (has-with c.args.link (net_of c.in-Some.network.now)) (λ q. lookup (nat_eq q) c.self.inside.by_link.entries) (λ q. lookup (nat_eq q) c.insert.new.self.entries) put.0
-    (nets_in es) found (none-linked c.args.link (nets_in es) fresh) c.self.invariant.owners.of_link; of_users = owners-same (has_range 2) c.args.id (with_link c.args.link) (λ n. refl) (λ n r. refl) _ (nets_in es) c.self.invariant.owners.of_users; of_apps = owners-same (has_range 1) c.args.id (with_link c.args.link) (λ n. refl) (λ n r. refl) _ (nets_in es) c.self.invariant.owners.of_apps }))
+    (record {
+      of_link = owners-more has_link c.args.id (with_link c.args.link) (λ n. refl) (net_of c.in-Some.network.now) (λ q. nat_eq c.args.link q) (has-with c.args.link (net_of c.in-Some.network.now)) (λ q. lookup (nat_eq q) c.self.inside.by_link.entries) (λ q. lookup (nat_eq q) c.insert.new.self.entries) put.0
+          (nets_in es) found (none-linked c.args.link (nets_in es) fresh) c.self.invariant.owners.of_link;
+      of_users = owners-same (has_range 2) c.args.id (with_link c.args.link) (λ n. refl) (λ n r. refl) _ (nets_in es) c.self.invariant.owners.of_users;
+      of_apps = owners-same (has_range 1) c.args.id (with_link c.args.link) (λ n. refl) (λ n r. refl) _ (nets_in es) c.self.invariant.owners.of_apps;
+    }))
 
 pub returns : goal.returns
 returns c =

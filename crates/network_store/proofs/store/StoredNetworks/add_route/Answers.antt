@@ -4,7 +4,7 @@ use Rattle.network_store.specs.Store.{StoreView, nets_of, nets_in, with_net, Are
 use Rattle.network_store.proofs.Entries.{none-net, set-net, indexed-changed, find-lookup, whole-lookup}
 use Rattle.network_store.proofs.Kinships.{owners-kept}
 use Rattle.networks.specs.Lists.{find_id}
-use Rattle.networks.specs.Network.{has_link, is_keyed_by}
+use Rattle.networks.specs.Network.{is_keyed_by}
 use Rattle.std.specs.List.{list_any}
 use Rattle.std.specs.Option.{option_map, IfSome}
 use Rattle.networks.specs.declared.network.Network.{Network}

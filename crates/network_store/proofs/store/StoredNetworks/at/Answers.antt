@@ -2,7 +2,6 @@ use Rattle.std.proofs.Common.{◌∙◌, sym, ap, slice_get}
 use Rattle.std.specs.Option.{option_map}
 use Rattle.network_store.specs.Stored.{net_of}
 use Rattle.network_store.specs.Store.{StoreView, nets_of}
-use Rattle.network_store.specs.declared.network.StoredNetwork.{StoredNetwork}
 use Rattle.network_store.proofs.Entries.{Entry, at-place}
 use Rattle.network_store.proofs.store.StoredNetworks.at.Goals as goal
 

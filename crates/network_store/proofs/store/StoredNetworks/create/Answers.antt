@@ -1,8 +1,7 @@
-use Rattle.std.proofs.Common.{◌≡◌, ◌∙◌, ◌<◌, ◌++◌, ◌∷◌, [], sym, ap, subst, nat_eq, None, false, refl}
+use Rattle.std.proofs.Common.{◌≡◌, ◌∙◌, ◌<◌, ◌++◌, ◌∷◌, [], sym, ap, subst, nat_eq, None}
 use Rattle.indexmap.proofs.CallerLemmas.{insert_entry-new}
 use Rattle.list_lemmas.proofs.Found.{on-ok}
 use Rattle.networks.specs.Lists.{find_id}
-use Rattle.networks.specs.Network.{has_link}
 use Rattle.networks.specs.declared.network.Network.{Network}
 use Rattle.network_store.specs.Stored.{net_of, kind_of, bare_net}
 use Rattle.network_store.specs.Store.{StoreView, nets_of, nets_in, AreIndexed}

@@ -1,10 +1,9 @@
-use Rattle.std.proofs.Common.{◌≡◌, ◌<◌, ◌∙◌, ℕ, Some, None, Option, true, false, sym, ap, refl}
+use Rattle.std.proofs.Common.{◌≡◌, ◌∙◌, Some, None, sym, ap, refl}
 use Rattle.std.specs.Option.{option_map}
-use Rattle.list_lemmas.proofs.Found.{copied-map}
 use Rattle.networks.specs.Lists.{find_id}
 use Rattle.networks.specs.declared.network.Network.{Network}
 use Rattle.network_store.specs.Holders.{is_vpn, user_at, holder_at}
-use Rattle.network_store.specs.Stored.{net_of, kind_of}
+use Rattle.network_store.specs.Stored.{net_of}
 use Rattle.network_store.specs.Store.{StoreView, nets_of, nets_in}
 use Rattle.network_store.proofs.Entries.{find-lookup}
 use Rattle.network_store.proofs.Holders.{kept_if, found-at, none-at, user_at-is, holder_at-is}

@@ -26,9 +26,13 @@ invariant_of-self-2 c =
     let found = find-lookup c.args.id es c.self.invariant.at_ids ∙ ap (option_map net_of) (sym c.in-Some.ensures.value) in
     subst (λ es. AreIndexed es c.swap_remove.new.self.entries c.self.inside.users.ranges c.self.inside.apps.ranges) (sym wrote.0)
     (indexed-changed c.args.id (without_link c.args.link) (λ n. refl) es c.self.inside.by_link.entries c.swap_remove.new.self.entries c.self.inside.users.ranges c.self.inside.users.ranges c.self.inside.apps.ranges c.self.inside.apps.ranges c.in-Some.network.now c.remove_interface.new.self c.self.invariant c.in-Some.ensures.value c.remove_interface.ensures.net c.remove_interface.ensures.same_id
-    (record { of_link = owners-less has_link c.args.id (λ q. nat_eq c.args.link q) look (λ q. lookup (nat_eq q) c.swap_remove.new.self.entries) c.swap_remove.ensures.updates.0
-    (one-owner c.args.link c.args.id look (sym (owner-found has_link look (nets_in es) c.self.invariant.owners.of_link c.args.link) ∙ owner))
-    (without_link c.args.link) (λ n. refl) (net_of c.in-Some.network.now) (has-without c.args.link (net_of c.in-Some.network.now)) (nets_in es) found c.self.invariant.keyed c.self.invariant.owners.of_link; of_users = owners-same (has_range 2) c.args.id (without_link c.args.link) (λ n. refl) (λ n r. refl) _ (nets_in es) c.self.invariant.owners.of_users; of_apps = owners-same (has_range 1) c.args.id (without_link c.args.link) (λ n. refl) (λ n r. refl) _ (nets_in es) c.self.invariant.owners.of_apps }))
+    (record {
+      of_link = owners-less has_link c.args.id (λ q. nat_eq c.args.link q) look (λ q. lookup (nat_eq q) c.swap_remove.new.self.entries) c.swap_remove.ensures.updates.0
+          (one-owner c.args.link c.args.id look (sym (owner-found has_link look (nets_in es) c.self.invariant.owners.of_link c.args.link) ∙ owner))
+          (without_link c.args.link) (λ n. refl) (net_of c.in-Some.network.now) (has-without c.args.link (net_of c.in-Some.network.now)) (nets_in es) found c.self.invariant.keyed c.self.invariant.owners.of_link;
+      of_users = owners-same (has_range 2) c.args.id (without_link c.args.link) (λ n. refl) (λ n r. refl) _ (nets_in es) c.self.invariant.owners.of_users;
+      of_apps = owners-same (has_range 1) c.args.id (without_link c.args.link) (λ n. refl) (λ n r. refl) _ (nets_in es) c.self.invariant.owners.of_apps;
+    }))
 
 pub returns : goal.returns
 returns c =

@@ -3,7 +3,6 @@ use Rattle.network_store.specs.Stored.{with_permission}
 use Rattle.network_store.specs.Store.{StoreView, nets_of, nets_in, with_net, AreIndexed}
 use Rattle.network_store.proofs.Entries.{none-net, set-net, indexed-changed}
 use Rattle.network_store.proofs.Kinships.{owners-kept, has_range-needing}
-use Rattle.networks.specs.Network.{has_link}
 use Rattle.network_store.proofs.store.StoredNetworks.set_permission.Goals as goal
 
 pub returns-in_default : goal.returns-in_default
