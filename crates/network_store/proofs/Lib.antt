@@ -5,3 +5,4 @@ pub mod Sorted
 pub mod Owned
 pub mod Kinships
 pub mod Holders
+pub mod Changes
