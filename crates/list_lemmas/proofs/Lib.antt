@@ -5,3 +5,4 @@ pub mod Places
 pub mod Positions
 pub mod Numbers
 pub mod Options
+pub mod Found
