@@ -9,18 +9,21 @@ pub formed-start : IsWellFormed start
 formed-start = record {
   links = record { others = []; loopback_first = refl; from_two = tt; names_distinct = refl; indices_distinct = refl; few = omega arith };
   networks = record {
-    each = (record {
-      id_above = omega arith;
-      id_fits = omega arith;
-      interfaces_differ = refl;
-      interfaces_above = refl;
-      few_interfaces = omega arith;
-      ranked = refl;
-      few_ranges = omega arith;
-      routes_belong = tt;
-      keys_distinct = λ link. refl;
-      few_routes = λ link. omega arith;
-    }, tt);
+    each = (
+      record {
+        id_above = omega arith;
+        id_fits = omega arith;
+        interfaces_differ = refl;
+        interfaces_above = refl;
+        few_interfaces = omega arith;
+        ranked = refl;
+        few_ranges = omega arith;
+        routes_belong = tt;
+        keys_distinct = λ link. refl;
+        few_routes = λ link. omega arith;
+      },
+      tt,
+    );
     differ = refl;
     local_first = record { local = local_network; others = []; first = refl; is_local = refl; id_is = refl; by_link = refl; few_routes = omega arith; others_created = refl };
     few = omega arith;

@@ -76,7 +76,7 @@ formed-link_add s name index formed most accepted =
     let facts = none_holds (reasons s (command.LinkAdd name index)) accepted in
     let more : List Link = s.links ++ record { name = name; index = index } ∷ [] in
     let stays : (i : ℕ) → is_index s.links i ≡ true → is_index more i ≡ true =
-        λ i h. list_any-append (λ l. l.index == i) s.links (record { name = name; index = index } ∷ []) ∙ or_left _ _ h in
+    λ i h. list_any-append (λ l. l.index == i) s.links (record { name = name; index = index } ∷ []) ∙ or_left _ _ h in
     formed-links s more formed
     (links-add s.links name index formed.links (ltb-false index 2 facts.0) most facts.1.0 (leb-false most_links (length s.links) facts.1.1.0))
     (λ n i in_n in_i h. stays i h) (λ pair in_pair h. stays pair.input h)
@@ -112,7 +112,7 @@ formed-link_remove s name formed accepted =
     let idle = or_parts (is_in_any s gone) (is_input s gone) busy in
     let left : List Link = filter (λ l. not (bytes_eq l.name name)) s.links in
     let kept : (i : ℕ) → (i == gone) ≡ false → is_index s.links i ≡ true → is_index left i ≡ true =
-        λ i other h. index_kept name gone i s.links formed.links.names_distinct named other h in
+    λ i other h. index_kept name gone i s.links formed.links.names_distinct named other h in
     formed-links s left formed (links-remove s.links name formed.links facts.1.0)
     (λ n i in_n in_i h. kept i (false_from_ne_true (i == gone) (λ same.
     false≢true (sym (in_none s gone n idle.0 in_n) ∙ has-link n gone (subst (Has n.interfaces) (eqb-true i gone same) in_i)))) h)
@@ -138,10 +138,10 @@ formed-create s net permission formed most accepted =
     let above : 100 ≤ net = ltb-false net 100 facts.0 in
     let start : StartsLocal s.networks = formed.networks.local_first in
     let apart : list_all (λ n. list_all (nets_differ n) (more ∷ [])) s.networks ≡ true =
-        all-from (λ n. list_all (nets_differ n) (more ∷ [])) s.networks (λ n there.
-        let id : differ n.id net ≡ true = not_from_false (n.id == net) (eqb-turned n.id net ∙ unknown net s.networks (not-false _ facts.1.0) n there) in
-        and_from _ _ (and_from _ _ id (and_from _ _ (all-from (λ i. list_all (differ i) []) n.interfaces (λ i h. refl))
-        (or_right (not (class_of n.kind == 1)) _ (all-from (λ r. list_all (ranks_differ r) []) (ranges_of n.kind) (λ r h. refl))))) refl) in
+    all-from (λ n. list_all (nets_differ n) (more ∷ [])) s.networks (λ n there.
+    let id : differ n.id net ≡ true = not_from_false (n.id == net) (eqb-turned n.id net ∙ unknown net s.networks (not-false _ facts.1.0) n there) in
+    and_from _ _ (and_from _ _ id (and_from _ _ (all-from (λ i. list_all (differ i) []) n.interfaces (λ i h. refl))
+    (or_right (not (class_of n.kind == 1)) _ (all-from (λ r. list_all (ranks_differ r) []) (ranges_of n.kind) (λ r h. refl))))) refl) in
     record {
       links = formed.links;
       networks = record {
@@ -328,9 +328,9 @@ formed-route_add s net name prefix w formed accepted =
     let ways = or_parts (is_special w && is_local_net s net) (is_way_of_other_family prefix w) facts.1.1.1.0 in
     let special : (is_special w && is_local n.kind) ≡ false = ap (λ b. is_special w && b) (sym (is_local_net-at s net n at.found)) ∙ ways.0 in
     let absent : has_key (routes_by link n.routes) (route_of link prefix w) ≡ false =
-        ap (λ rs. has_key rs (route_of link prefix w)) (sym (routes_at-at s net n at.found link)) ∙ (sym (of_link-at s name (λ i. has_key (routes_at s net i) (route_of i prefix w)) link at.named) ∙ facts.1.1.1.1.0) in
+    ap (λ rs. has_key rs (route_of link prefix w)) (sym (routes_at-at s net n at.found link)) ∙ (sym (of_link-at s name (λ i. has_key (routes_at s net i) (route_of i prefix w)) link at.named) ∙ facts.1.1.1.1.0) in
     let full : nat_le most_routes (length (table_routes_of n link)) ≡ false =
-        ap (λ rs. nat_le most_routes (length rs)) (sym (table_routes-at s net n at.found link)) ∙ (sym (of_link-at s name (λ i. nat_le most_routes (length (table_routes s net i))) link at.named) ∙ facts.1.1.1.1.1.0) in
+    ap (λ rs. nat_le most_routes (length rs)) (sym (table_routes-at s net n at.found link)) ∙ (sym (of_link-at s name (λ i. nat_le most_routes (length (table_routes s net i))) link at.named) ∙ facts.1.1.1.1.1.0) in
     let room : length (table_routes_of n link) < most_routes = leb-false most_routes (length (table_routes_of n link)) full in
     let more : LinkRoute = record { link = link; route = route_of link prefix w } in
     subst IsWellFormed (sym (changed_by_link-at s name (λ i. with_net net (with_route i (route_of i prefix w))) link at.named))

@@ -45,7 +45,7 @@ pairwise-map t f [] kept all = refl
 pairwise-map t f (x ∷ xs) kept all =
     let parts = and_parts (list_all (t x) xs) (pairwise t xs) all in
     let first : list_all (t (f x)) (map f xs) ≡ true =
-        rw (list_all-map (t (f x)) f xs) (all-implied (t x) (λ y. t (f x) (f y)) xs (λ y h. kept x y (inl refl) (inr h)) parts.0) in
+    rw (list_all-map (t (f x)) f xs) (all-implied (t x) (λ y. t (f x) (f y)) xs (λ y h. kept x y (inl refl) (inr h)) parts.0) in
     and_from (list_all (t (f x)) (map f xs)) (pairwise t (map f xs)) first (pairwise-map t f xs (λ y z g h. kept y z (inr g) (inr h)) parts.1)
 
 -- networks
@@ -70,9 +70,9 @@ keyed-from [] all = refl
 keyed-from (n ∷ ns) all =
     let parts = and_parts (list_all (nets_differ n) ns) (pairwise nets_differ ns) all in
     let absent : list_any (λ i. i == n.id) (map (λ m. m.id) ns) ≡ false =
-        any-map (λ m. m.id) (λ i. i == n.id) ns ∙ none-from (λ m. m.id == n.id) ns (λ m there.
-        let apart : differ n.id m.id ≡ true = (and_parts (differ n.id m.id) _ (all-has (nets_differ n) ns m parts.0 there)).0 in
-        unlike-sym n.id m.id (not-true (n.id == m.id) apart)) in
+    any-map (λ m. m.id) (λ i. i == n.id) ns ∙ none-from (λ m. m.id == n.id) ns (λ m there.
+    let apart : differ n.id m.id ≡ true = (and_parts (differ n.id m.id) _ (all-has (nets_differ n) ns m parts.0 there)).0 in
+    unlike-sym n.id m.id (not-true (n.id == m.id) apart)) in
     and_from _ _ (not_from_false _ absent) (keyed-from ns parts.1)
   where
     none-from : {A : Type 0} (t : A → Bool) (xs : List A) → ((x : A) → Has xs x → t x ≡ false) → list_any t xs ≡ false

@@ -40,8 +40,8 @@ pub are_ranked-more : (rank : ℕ) (list : List Ranked) (more : List UidRange) �
 are_ranked-more rank list more good low disjoint apart =
     let parts = and_parts (list_all (λ r. nat_le r.rank last_rank) list) (pairwise are_apart list) good in
     let ranks : list_all (λ r. nat_le r.rank last_rank) (list ++ all_at rank more) ≡ true =
-        rw (list_all-append (λ r. nat_le r.rank last_rank) list (all_at rank more))
-        (and_from (list_all (λ r. nat_le r.rank last_rank) list) (list_all (λ r. nat_le r.rank last_rank) (all_at rank more)) parts.0 (all_in_range rank more low)) in
+    rw (list_all-append (λ r. nat_le r.rank last_rank) list (all_at rank more))
+    (and_from (list_all (λ r. nat_le r.rank last_rank) list) (list_all (λ r. nat_le r.rank last_rank) (all_at rank more)) parts.0 (all_in_range rank more low)) in
     and_from (list_all (λ r. nat_le r.rank last_rank) (list ++ all_at rank more)) (pairwise are_apart (list ++ all_at rank more)) ranks
     (pairwise-append are_apart list (all_at rank more) parts.1 (all_apart rank more disjoint) (across rank list more apart))
 

@@ -15,6 +15,6 @@ invariant_of-result c =
       protectable = c.new-2.result;
       lockdown = c.empty.result;
       pairs = c.new-3.result;
-      default = None
+      default = None;
     }) ≡ start = search rules in
     subst IsGood (sym is) good-start
