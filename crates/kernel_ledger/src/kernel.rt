@@ -39,12 +39,12 @@ fn own_rules<R: RuleStore>(alloc: Global) -> Result<R, AllocError>
 }
 
 impl<R: RuleStore> LedgerKernel<R> {
-    ghost use Rattle.kernel_ledger.specs.Seen.{seen_by, starting};
+    ghost use Rattle.kernel_ledger.specs.Seen.{starting};
 
     /// The starting kernel with an empty journal. The k-th addition asked for is refused exactly where k is in
     /// `refuse`, and the k-th deletion breaks exactly where k is in `breaks`.
     pub fn new(alloc: Global, refuse: Vec<u64>, breaks: Vec<u64>) -> Result<Self, AllocError>
-        ensures { IfOk result (λ kernel. seen_by kernel.ledger ≡
+        ensures { IfOk result (λ kernel. ⟦<LedgerKernel<R> as Kernel>⟧.seen kernel ≡
             starting (Some (record { refuse = refuse.items; breaks = breaks.items }))) }
     {
         let rules4 = own_rules(alloc)?;
