@@ -172,8 +172,8 @@ impl State {
     }
 
     fn route_add_refusal(&self, net: u16, name: &Name, prefix: Prefix, way: Way) -> Option<Code>
-        ensures { result ≡
-            step.first_that_holds (step.reasons self.now (Command.RouteAdd net name.now prefix way)) }
+        ensures { result ≡ step.first_that_holds
+            (step.reasons self.now (Command.RouteAdd net name.now prefix way)) }
     {
         let (network, link) = match self.route_place(net, name) {
             Ok(place) => place,
@@ -198,8 +198,8 @@ impl State {
         prefix: Prefix,
         special: bool,
     ) -> Option<Code>
-        ensures { result ≡
-            step.first_that_holds (step.reasons self.now (Command.RouteRemove net name.now prefix special)) }
+        ensures { result ≡ step.first_that_holds
+            (step.reasons self.now (Command.RouteRemove net name.now prefix special)) }
     {
         let (network, link) = match self.route_place(net, name) {
             Ok(place) => place,
@@ -212,8 +212,8 @@ impl State {
     }
 
     fn permission_refusal(&self, net: u16) -> Option<Code>
-        ensures { (permission : Permission) → result ≡
-            step.first_that_holds (step.reasons self.now (Command.PermissionNetwork net permission)) }
+        ensures { (permission : Permission) → result ≡ step.first_that_holds
+            (step.reasons self.now (Command.PermissionNetwork net permission)) }
     {
         let Some(network) = self.networks().get(net) else {
             return Some(Code::NoNetwork);

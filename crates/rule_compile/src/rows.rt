@@ -208,8 +208,8 @@ fn push_networks(
     home: Option<&Network>,
 ) -> Result<(), AllocError>
     requires home { option_copied home ≡ default_of state.now }
-    ensures { IfOk result (λ _. rules.new.items ≡ rules.old.items ++ map (rule_of row.now)
-        (flat_map (items_at set part state.now.default (default_of state.now)) state.now.networks)) }
+    ensures { IfOk result (λ _. rules.new.items ≡ rules.old.items ++ map (rule_of row.now) (flat_map
+        (items_at set part state.now.default (default_of state.now)) state.now.networks)) }
 {
     let networks = state.networks();
     let default = state.default_net();
