@@ -222,12 +222,17 @@ may_step : (g : Given) (o : Which) (front rest : List Text) (x : Option Text) �
 may_step g o front rest None a p new = ap (λ (l : List Text). run_from None g (l ++ rest)) a
 may_step g o front rest (Some t) a p new = gives_step g o front rest t a p new
 
+-- one option, and then the other, which the first didn't give
+both_first : (o other : Which) (first second : List Text) (x y : Option Text) → MayGiveText o first x → MayGiveText other second y → IsPlainOrNone x → IsPlainOrNone y
+    → given_of nothing_given o ≡ None → given_of (with_option nothing_given o x) other ≡ None
+    → run_given (first ++ second) ≡ run_from None (with_option (with_option nothing_given o x) other y) []
+both_first o other first second x y a b px py new_first new_second =
+    may_step nothing_given o first second x a px new_first
+    ∙ ap (λ (l : List Text). run_from None (with_option nothing_given o x) l) (sym (append-nil second))
+    ∙ may_step (with_option nothing_given o x) other second [] y b py new_second
+
 refuse_first : (first second : List Text) (x y : Option Text) → MayGiveText refuse first x → MayGiveText broken second y → IsPlainOrNone x → IsPlainOrNone y → run_given (first ++ second) ≡ Some (record { refuses = x; breaks = y })
-refuse_first first second x y a b px py =
-    may_step nothing_given refuse first second x a px refl
-    ∙ ap (λ (l : List Text). run_from None (with_option nothing_given refuse x) l) (sym (append-nil second))
-    ∙ may_step (with_option nothing_given refuse x) broken second [] y b py (new x)
-    ∙ same x y
+refuse_first first second x y a b px py = both_first refuse broken first second x y a b px py refl (new x) ∙ same x y
   where
     new : (v : Option Text) → given_of (with_option nothing_given refuse v) broken ≡ None
     new None = refl
@@ -240,11 +245,7 @@ refuse_first first second x y a b px py =
     same (Some t) (Some u) = refl
 
 break_first : (first second : List Text) (x y : Option Text) → MayGiveText broken first y → MayGiveText refuse second x → IsPlainOrNone x → IsPlainOrNone y → run_given (first ++ second) ≡ Some (record { refuses = x; breaks = y })
-break_first first second x y a b px py =
-    may_step nothing_given broken first second y a py refl
-    ∙ ap (λ (l : List Text). run_from None (with_option nothing_given broken y) l) (sym (append-nil second))
-    ∙ may_step (with_option nothing_given broken y) refuse second [] x b px (new y)
-    ∙ same x y
+break_first first second x y a b px py = both_first broken refuse first second y x a b py px refl (new y) ∙ same x y
   where
     new : (v : Option Text) → given_of (with_option nothing_given broken v) refuse ≡ None
     new None = refl

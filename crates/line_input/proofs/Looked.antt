@@ -7,9 +7,10 @@ use Rattle.std.proofs.KnownBytes.{Consumes-trans}
 use Rattle.std.specs.Io.KnownBytes.{Consumes}
 use Rattle.line_input.specs.Lines.{IsOneLine, line_feed, line_limit}
 use Rattle.net_io.specs.Streams.{SourceView}
-use Rattle.line_input.specs.Looks.{held, line_of, Looks}
+use Rattle.line_input.specs.Looks.{held, line_of, Found, Looks}
 use Rattle.line_input.specs.Steps.{Takes, Looking}
 use Rattle.line_input.specs.declared.input.Input.{Input}
+use Rattle.line_input.specs.declared.input.Met.{Met}
 use Rattle.line_input.specs.declared.input.Met.TheVariants.{Line, End}
 use Rattle.line_input.specs.declared.input.InputFault.{InputFault}
 use Rattle.line_input.specs.declared.input.InputFault.TheVariants.{Read, TooLong}
@@ -37,103 +38,77 @@ module _ (start : List ℕ) (count : ℕ) (mid new : Input) (b m a : SourceView)
   line_same : (r : Result (Option ℕ) InputFault) (t : Takes mid new m a r) → IsOneLine (line_of new)
   line_same r t = rw t.line_kept l.one_line
 
-  pub looks_read : Takes mid new m a (Err Read) → mid.length ≤ line_limit → Looks start count new b a (Err Read)
-  looks_read t short = record {
+  -- looking ends with the answer to this byte, of which only what was found is left to be said
+  looks_by : (r : Result (Option ℕ) InputFault) (x : Result Met InputFault) (t : Takes mid new m a r)
+      → Found x (line_of new) (start ++ (l.more ++ t.more)) (held new) new.given b a → Looks start count new b a x
+  looks_by r x t found = record {
     more = l.more ++ t.more;
-    taken = both_taken (Err Read) t;
-    counted = both_counted (Err Read) t;
-    one_line = line_same (Err Read) t;
+    taken = both_taken r t;
+    counted = both_counted r t;
+    one_line = line_same r t;
     finished = t.finished;
     none_left = t.none_left;
-    found = (
-      bytes_so_far (Err Read) t ∙ (ap (λ (xs : List ℕ). line_of mid ++ xs) t.byte.0 ∙ (append-nil (line_of mid) ∙ sym t.line_kept)),
-      omega (arith, ap length t.line_kept, l.length_is),
-      t.byte.1,
-      t.byte.2,
-      omega (arith, t.byte.3, l.no_fault),
-      t.byte.4,
-    );
+    found = found;
   }
+
+  pub looks_read : Takes mid new m a (Err Read) → mid.length ≤ line_limit → Looks start count new b a (Err Read)
+  looks_read t short = looks_by (Err Read) (Err Read) t (
+    bytes_so_far (Err Read) t ∙ (ap (λ (xs : List ℕ). line_of mid ++ xs) t.byte.0 ∙ (append-nil (line_of mid) ∙ sym t.line_kept)),
+    omega (arith, ap length t.line_kept, l.length_is),
+    t.byte.1,
+    t.byte.2,
+    omega (arith, t.byte.3, l.no_fault),
+    t.byte.4,
+  )
 
   pub looks_long_input : Takes mid new m a (Err TooLong) → mid.length ≤ line_limit → Looks start count new b a (Err TooLong)
-  looks_long_input t short = record {
-    more = l.more ++ t.more;
-    taken = both_taken (Err TooLong) t;
-    counted = both_counted (Err TooLong) t;
-    one_line = line_same (Err TooLong) t;
-    finished = t.finished;
-    none_left = t.none_left;
-    found = (
-      bytes_so_far (Err TooLong) t ∙ (ap (λ (xs : List ℕ). line_of mid ++ xs) t.byte.0 ∙ ap (λ (xs : List ℕ). xs ++ held new) (sym t.line_kept)),
-      omega (arith, ap length t.line_kept, l.length_is),
-      t.byte.1,
-      t.byte.2,
-      t.byte.3 ∙ l.no_fault,
-      t.byte.4,
-    );
-  }
+  looks_long_input t short = looks_by (Err TooLong) (Err TooLong) t (
+    bytes_so_far (Err TooLong) t ∙ (ap (λ (xs : List ℕ). line_of mid ++ xs) t.byte.0 ∙ ap (λ (xs : List ℕ). xs ++ held new) (sym t.line_kept)),
+    omega (arith, ap length t.line_kept, l.length_is),
+    t.byte.1,
+    t.byte.2,
+    t.byte.3 ∙ l.no_fault,
+    t.byte.4,
+  )
 
   looks_end : Takes mid new m a (Ok None) → mid.length ≡ 0 → Looks start count new b a (Ok End)
-  looks_end t none = record {
-    more = l.more ++ t.more;
-    taken = both_taken (Ok None) t;
-    counted = both_counted (Ok None) t;
-    one_line = line_same (Ok None) t;
-    finished = t.finished;
-    none_left = t.none_left;
-    found =
-        let empty : line_of mid ≡ [] = no_length (line_of mid) (l.length_is ∙ none) in (
-          bytes_so_far (Ok None) t ∙ (ap (λ (xs : List ℕ). line_of mid ++ xs) t.byte.0 ∙ (append-nil (line_of mid) ∙ empty)),
-          t.line_kept ∙ empty,
-          t.byte.1,
-          t.byte.2,
-          t.byte.3 ∙ l.no_fault,
-          t.byte.4,
-        );
-  }
+  looks_end t none =
+      let empty : line_of mid ≡ [] = no_length (line_of mid) (l.length_is ∙ none) in
+      looks_by (Ok None) (Ok End) t (
+        bytes_so_far (Ok None) t ∙ (ap (λ (xs : List ℕ). line_of mid ++ xs) t.byte.0 ∙ (append-nil (line_of mid) ∙ empty)),
+        t.line_kept ∙ empty,
+        t.byte.1,
+        t.byte.2,
+        t.byte.3 ∙ l.no_fault,
+        t.byte.4,
+      )
     where
       no_length : (xs : List ℕ) → length xs ≡ 0 → xs ≡ []
       no_length [] h = refl
       no_length (x ∷ xs) h = absurd (omega arith)
 
   pub looks_last : Takes mid new m a (Ok None) → 0 < mid.length → mid.length ≤ line_limit → Looks start count new b a (Ok Line)
-  looks_last t some short = record {
-    more = l.more ++ t.more;
-    taken = both_taken (Ok None) t;
-    counted = both_counted (Ok None) t;
-    one_line = line_same (Ok None) t;
-    finished = t.finished;
-    none_left = t.none_left;
-    found = (
-      (
-        line_of new,
-        bytes_so_far (Ok None) t ∙ (ap (λ (xs : List ℕ). line_of mid ++ xs) (t.byte.0 ∙ sym t.byte.1) ∙ ap (λ (xs : List ℕ). xs ++ held new) (sym t.line_kept)),
-        inr (inr (refl, omega (arith, ap length t.line_kept, l.length_is), omega (arith, ap length t.line_kept, l.length_is), t.byte.1, t.byte.4)),
-      ),
-      t.byte.2,
-      t.byte.3 ∙ l.no_fault,
-    );
-  }
+  looks_last t some short = looks_by (Ok None) (Ok Line) t (
+    (
+      line_of new,
+      bytes_so_far (Ok None) t ∙ (ap (λ (xs : List ℕ). line_of mid ++ xs) (t.byte.0 ∙ sym t.byte.1) ∙ ap (λ (xs : List ℕ). xs ++ held new) (sym t.line_kept)),
+      inr (inr (refl, omega (arith, ap length t.line_kept, l.length_is), omega (arith, ap length t.line_kept, l.length_is), t.byte.1, t.byte.4)),
+    ),
+    t.byte.2,
+    t.byte.3 ∙ l.no_fault,
+  )
 
   pub looks_fed : Takes mid new m a (Ok (Some line_feed)) → mid.length ≤ line_limit → Looks start count new b a (Ok Line)
-  looks_fed t short = record {
-    more = l.more ++ t.more;
-    taken = both_taken (Ok (Some line_feed)) t;
-    counted = both_counted (Ok (Some line_feed)) t;
-    one_line = line_same (Ok (Some line_feed)) t;
-    finished = t.finished;
-    none_left = t.none_left;
-    found = (
-      (
-        line_of new ++ line_feed ∷ [],
-        bytes_so_far (Ok (Some line_feed)) t ∙ (ap (λ (xs : List ℕ). line_of mid ++ xs) t.byte.0
-            ∙ (sym (append_assoc (line_of mid) (line_feed ∷ []) (held new)) ∙ ap (λ (xs : List ℕ). (xs ++ line_feed ∷ []) ++ held new) (sym t.line_kept))),
-        inl (refl, omega (arith, ap length t.line_kept, l.length_is)),
-      ),
-      t.byte.1,
-      t.byte.2 ∙ l.no_fault,
-    );
-  }
+  looks_fed t short = looks_by (Ok (Some line_feed)) (Ok Line) t (
+    (
+      line_of new ++ line_feed ∷ [],
+      bytes_so_far (Ok (Some line_feed)) t ∙ (ap (λ (xs : List ℕ). line_of mid ++ xs) t.byte.0
+          ∙ (sym (append_assoc (line_of mid) (line_feed ∷ []) (held new)) ∙ ap (λ (xs : List ℕ). (xs ++ line_feed ∷ []) ++ held new) (sym t.line_kept))),
+      inl (refl, omega (arith, ap length t.line_kept, l.length_is)),
+    ),
+    t.byte.1,
+    t.byte.2 ∙ l.no_fault,
+  )
 
   -- the byte is kept, and looking goes on
   pub looking_on : (byte : ℕ) (next : Input) → Takes mid new m a (Ok (Some byte)) → byte ≢ line_feed

@@ -11,7 +11,7 @@ use Rattle.prefixes.proofs.Sames.{same_route-true}
 use Rattle.route_chains.specs.declared.slot.Slot.{Slot}
 use Rattle.route_chains.specs.Chains.{Chained, chain_of, TakesOut}
 use Rattle.route_chains.specs.Places.{held}
-use Rattle.route_chains.specs.Links.{entry_of, entries_of, IsNext, AreLinked, AreHeads, AreWithin, with_next, relinked, reheaded}
+use Rattle.route_chains.specs.Links.{entry_of, entries_of, IsNext, AreWithin, AreChains, with_next, relinked, reheaded}
 use Rattle.route_chains.specs.Found.{past, route_at, IsOf, IsFound}
 use Rattle.route_chains.proofs.Standing.{held-within, held-unset}
 use Rattle.route_chains.proofs.Nexts.{one_of}
@@ -36,29 +36,24 @@ at_end xs k head before (Some place) found =
     let one = one_of k xs place found.next.1 in
     absurd (none-some one.slot.route (sym (find-nothing (chain_of k (entries_of xs))) ∙ found.value ∙ ap (option_map (λ (s : Slot). s.route)) one.stands))
 
-pub record Changed (xs : List (Option Slot)) (new : List (Option Slot)) (heads : List (Option ℕ)) : Type 0 where
-  pub links : AreLinked new
-  pub starts : AreHeads new heads
-  pub within : AreWithin new (length heads)
-
-module _ (xs : List (Option Slot)) (heads : List (Option ℕ)) (k : ℕ) (links : AreLinked xs) (starts : AreHeads xs heads) (within : AreWithin xs (length heads)) (there : k < length heads) (before at : Option ℕ) where
+module _ (xs : List (Option Slot)) (heads : List (Option ℕ)) (k : ℕ) (chains : AreChains xs heads) (there : k < length heads) (before at : Option ℕ) where
   module _ (route : Route) (found : IsFound xs k (get_or heads k None) (λ _. false) before at) (place : ℕ) (last : place ≡ length xs) (mid new : List (Option Slot)) (new_heads : List (Option ℕ))
       (relinks : mid ≡ relinked xs before (Some place)) (reheads : new_heads ≡ reheaded heads k before (Some place)) (pushes : new ≡ mid ++ Some (record { chain = k; route = route; next = None }) ∷ []) where
     mid_is : mid ≡ relinked xs before (Some (length xs))
     mid_is = relinks ∙ ap (λ n. relinked xs before (Some n)) last
 
-    new_is : new ≡ grown xs heads k before links starts found.before_is (at_end xs k (get_or heads k None) before at found) route
+    new_is : new ≡ grown xs heads k before chains.linked chains.begun found.before_is (at_end xs k (get_or heads k None) before at found) route
     new_is = pushes ∙ ap (λ (l : List (Option Slot)). l ++ Some (record { chain = k; route = route; next = None }) ∷ []) mid_is
 
     heads_are : new_heads ≡ reheaded heads k before (Some (length xs))
     heads_are = reheads ∙ ap (λ n. reheaded heads k before (Some n)) last
 
-    pub added : Changed xs new new_heads
-    added = subst (λ l. Changed xs l new_heads) (sym new_is) (subst (Changed xs (grown xs heads k before links starts found.before_is (at_end xs k (get_or heads k None) before at found) route)) (sym heads_are)
+    pub added : AreChains new new_heads
+    added = subst (λ l. AreChains l new_heads) (sym new_is) (subst (AreChains (grown xs heads k before chains.linked chains.begun found.before_is (at_end xs k (get_or heads k None) before at found) route)) (sym heads_are)
         (record {
-          links = links_added xs heads k before links starts found.before_is (at_end xs k (get_or heads k None) before at found) route;
-          starts = heads_added xs heads k before links starts found.before_is (at_end xs k (get_or heads k None) before at found) route there;
-          within = subst (AreWithin _) (sym (length-reheaded heads k before (Some (length xs)))) (within_added xs heads k before links starts found.before_is (at_end xs k (get_or heads k None) before at found) route there within);
+          linked = links_added xs heads k before chains.linked chains.begun found.before_is (at_end xs k (get_or heads k None) before at found) route;
+          begun = heads_added xs heads k before chains.linked chains.begun found.before_is (at_end xs k (get_or heads k None) before at found) route there;
+          within = subst (AreWithin _) (sym (length-reheaded heads k before (Some (length xs)))) (within_added xs heads k before chains.linked chains.begun found.before_is (at_end xs k (get_or heads k None) before at found) route there chains.within);
         }))
 
     pub entries_added : entries_of new ≡ entries_of xs ++ record { chain = k; route = route } ∷ []
@@ -99,15 +94,15 @@ module _ (xs : List (Option Slot)) (heads : List (Option ℕ)) (k : ℕ) (links 
       stays (Some b) is = held-unset xs b place (option_map (with_next slot.next) (held xs b)) (apart b is) ∙ stands
 
       module _ (mid new : List (Option Slot)) (new_heads : List (Option ℕ)) (relinks : mid ≡ relinked xs before slot.next) (reheads : new_heads ≡ reheaded heads k before slot.next) (empties : new ≡ set mid place None) where
-        cut_is : new ≡ cut xs heads k before links starts found.before_is place slot stands of_k next
+        cut_is : new ≡ cut xs heads k before chains.linked chains.begun found.before_is place slot stands of_k next
         cut_is = empties ∙ ap (λ (l : List (Option Slot)). set l place None) relinks
 
-        pub removed : Changed xs new new_heads
-        removed = subst (λ l. Changed xs l new_heads) (sym cut_is) (subst (Changed xs (cut xs heads k before links starts found.before_is place slot stands of_k next)) (sym reheads)
+        pub removed : AreChains new new_heads
+        removed = subst (λ l. AreChains l new_heads) (sym cut_is) (subst (AreChains (cut xs heads k before chains.linked chains.begun found.before_is place slot stands of_k next)) (sym reheads)
             (record {
-              links = links_cut xs heads k before links starts found.before_is place slot stands of_k next;
-              starts = heads_cut xs heads k before links starts found.before_is place slot stands of_k next there;
-              within = subst (AreWithin _) (sym (length-reheaded heads k before slot.next)) (within_cut xs heads k before links starts found.before_is place slot stands of_k next within);
+              linked = links_cut xs heads k before chains.linked chains.begun found.before_is place slot stands of_k next;
+              begun = heads_cut xs heads k before chains.linked chains.begun found.before_is place slot stands of_k next there;
+              within = subst (AreWithin _) (sym (length-reheaded heads k before slot.next)) (within_cut xs heads k before chains.linked chains.begun found.before_is place slot stands of_k next chains.within);
             }))
 
         pub entries_removed : TakesOut (entries_of xs) (entries_of new) (record { chain = k; route = route })

@@ -39,8 +39,10 @@ kept_opened t u kept slots b n heads longer room =
     let few : length t.heads.items ≡ vec_len t.heads = search rules in
     let many : length u.heads.items ≡ vec_len u.heads = search rules in
     record {
-      links = subst AreLinked (sym slots) kept.links;
-      heads = subst (λ xs. AreHeads xs u.heads.items) (sym slots) (opened_heads t.slots.items t.heads.items b n u.heads.items heads kept.heads kept.within);
-      within = subst (λ xs. AreWithin xs (length u.heads.items)) (sym slots) (opened_within t.slots.items (length t.heads.items) (length u.heads.items) (omega (arith, few, many, longer)) kept.within);
+      chains = record {
+        linked = subst AreLinked (sym slots) kept.chains.linked;
+        begun = subst (λ xs. AreHeads xs u.heads.items) (sym slots) (opened_heads t.slots.items t.heads.items b n u.heads.items heads kept.chains.begun kept.chains.within);
+        within = subst (λ xs. AreWithin xs (length u.heads.items)) (sym slots) (opened_within t.slots.items (length t.heads.items) (length u.heads.items) (omega (arith, few, many, longer)) kept.chains.within);
+      };
       room = room;
     }

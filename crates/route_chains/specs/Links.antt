@@ -39,6 +39,12 @@ AreWithin slots chains = (place : ℕ) (s : Slot) → held slots place ≡ Some 
 abbrev pub AreHeads : List (Option Slot) → List (Option ℕ) → Type 0
 AreHeads slots heads = (k : ℕ) (d : Option ℕ) → k < length heads → IsNext k slots 0 (get_or heads k d)
 
+-- the slots are in chains, and these are the heads
+pub record AreChains (slots : List (Option Slot)) (heads : List (Option ℕ)) : Type 0 where
+  pub linked : AreLinked slots
+  pub begun : AreHeads slots heads
+  pub within : AreWithin slots (length heads)
+
 -- the slot that a search ended before, or the head, is linked to another place
 abbrev pub with_next : Option ℕ → Slot → Slot
 with_next next s = record { chain = s.chain; route = s.route; next = next }

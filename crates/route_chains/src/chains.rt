@@ -4,7 +4,7 @@ ghost use Rattle.std.specs.Option.{option_map};
 ghost use Rattle.prefixes.specs.Route.{link_of, suits, same_key, same_route};
 ghost use Rattle.route_chains.specs.Chains.{chain_of, TakesOut};
 ghost use Rattle.route_chains.specs.Found.{route_at};
-ghost use Rattle.route_chains.specs.Links.{AreLinked, AreHeads, AreWithin, entries_of, with_next, relinked, reheaded};
+ghost use Rattle.route_chains.specs.Links.{AreChains, entries_of, with_next, relinked, reheaded};
 ghost use Rattle.route_chains.specs.Places.{held};
 
 use crate::places::{held, push_held, put};
@@ -126,18 +126,14 @@ fn add_slot(
     route: Route,
 )
     requires there { chain < length heads.old.items }
-    requires links { AreLinked slots.old.items }
-    requires heads { AreHeads slots.old.items heads.old.items }
-    requires within { AreWithin slots.old.items (length heads.old.items) }
+    requires chains { AreChains slots.old.items heads.old.items }
     requires room { vec_len slots.old < vec_capacity slots.old }
-    ensures links { AreLinked slots.new.items }
-    ensures heads { AreHeads slots.new.items heads.new.items }
-    ensures within { AreWithin slots.new.items (length heads.new.items) }
+    ensures chains { AreChains slots.new.items heads.new.items }
     ensures entries { entries_of slots.new.items
         ≡ entries_of slots.old.items ++ record { chain = chain; route = route } ∷ [] }
     ensures len { vec_len slots.new ≡ vec_len slots.old + 1 }
     ensures capacity { vec_capacity slots.new ≡ vec_capacity slots.old }
-    ensures chains { vec_len heads.new ≡ vec_len heads.old }
+    ensures heads { vec_len heads.new ≡ vec_len heads.old }
 {
     let found = search(slots, heads, chain, &Nothing);
     let place = slots.len();
@@ -160,19 +156,15 @@ fn cut_slot(
     route: Route,
 )
     requires there { chain < length heads.old.items }
-    requires links { AreLinked slots.old.items }
-    requires heads { AreHeads slots.old.items heads.old.items }
-    requires within { AreWithin slots.old.items (length heads.old.items) }
+    requires chains { AreChains slots.old.items heads.old.items }
     requires has { IsTrue (list_any (λ other. same_route other route)
         (chain_of chain (entries_of slots.old.items))) }
-    ensures links { AreLinked slots.new.items }
-    ensures heads { AreHeads slots.new.items heads.new.items }
-    ensures within { AreWithin slots.new.items (length heads.new.items) }
+    ensures chains { AreChains slots.new.items heads.new.items }
     ensures entries { TakesOut (entries_of slots.old.items) (entries_of slots.new.items)
         (record { chain = chain; route = route }) }
     ensures len { vec_len slots.new ≡ vec_len slots.old }
     ensures capacity { vec_capacity slots.new ≡ vec_capacity slots.old }
-    ensures chains { vec_len heads.new ≡ vec_len heads.old }
+    ensures heads { vec_len heads.new ≡ vec_len heads.old }
 {
     let found = search(slots, heads, chain, &IsRoute { route });
     let Some(place) = found.at else {

@@ -1,5 +1,5 @@
 ghost use Rattle.std.specs.Prelude.{◌≡◌, ◌<◌, Option, ℕ, None, get_or, length};
-ghost use Rattle.route_chains.specs.Links.{AreLinked, AreHeads};
+ghost use Rattle.route_chains.specs.Links.{AreChains};
 ghost use Rattle.route_chains.specs.Found.{IsFound};
 
 use crate::places::held;
@@ -28,8 +28,7 @@ pub fn search<T: Test>(
     test: &T,
 ) -> Found
     requires there { chain < length heads.now }
-    requires links { AreLinked slots.now }
-    requires heads { AreHeads slots.now heads.now }
+    requires chains { AreChains slots.now heads.now }
     ensures { IsFound slots.now chain (get_or heads.now chain None) (T.passes test.now)
         result.before result.at }
 {

@@ -1,4 +1,4 @@
-use Rattle.std.proofs.Common.{◌∙◌, ap, sym, subst, map, List, Option, None, refl, string_bytes, String, true, false, ◌≡◌, inl, inr}
+use Rattle.std.proofs.Common.{◌∙◌, ap, sym, subst, map, Bool, List, Option, None, refl, string_bytes, String, true, false, ◌≡◌, inl, inr}
 use Rattle.std.specs.List.{list_any}
 use Rattle.std.specs.declared.alloc.Global.{Global}
 use Rattle.std.proofs.lemmas.Result.{IfOk-weaker}
@@ -20,9 +20,14 @@ use Rattle.command_words.proofs.read.read_words.Goals as goal
 no_form : (words : List Text) → words_given words ≡ None → (form : FormView) → IsForm words form → ⊥
 no_form words none form has = subst (λ (o : Option Reading). SaysSome o form) none (given_from_form words form has)
 
+-- what was found of the words holds of their bytes
+refused_is : (words : List (String Global)) (found said : Bool) → found ≡ list_any (λ word. is_refused (string_bytes word)) words → found ≡ said
+    → list_any is_refused (map string_bytes words) ≡ said
+refused_is words found said is told = sym (list_any-map is_refused string_bytes words) ∙ sym is ∙ told
+
 pub returns-then-has_refused-clause-no_form : goal.returns-then-has_refused-clause-no_form
 returns-then-has_refused-clause-no_form c = λ _ form has.
-    let any = sym (list_any-map is_refused string_bytes c.args.words.now) ∙ sym c.has_refused.ensures ∙ c.if-has_refused.true in
+    let any = refused_is c.args.words.now _ _ c.has_refused.ensures c.if-has_refused.true in
     no_form (map string_bytes c.args.words.now) (refused_none (map string_bytes c.args.words.now) any) form has
 
 -- a word is refused, by the words' bytes, and none is, by the words
@@ -44,21 +49,19 @@ returns-in_default-clause-refused c = λ any.
 pub returns-in-Ok-try_get_matches_from-clause-ok : goal.returns-in-Ok-try_get_matches_from-clause-ok
 returns-in-Ok-try_get_matches_from-clause-ok c =
     let words : List Text = map string_bytes c.args.words.now in
-    let clean = sym (list_any-map is_refused string_bytes c.args.words.now) ∙ sym c.has_refused.ensures ∙ c.if-has_refused.false in
+    let clean = refused_is c.args.words.now _ _ c.has_refused.ensures c.if-has_refused.false in
     let app = c.in-Ok.ensures in
     let parsed = c.in-Ok-try_get_matches_from.ensures in
-    let fits = parsed.kinds (ap is_simple_and_free app ∙ is_usable) in
-    let reads = ap read_found (parsed.matches (ap is_simple app ∙ refl)).1 ∙ taken_given _ words app clean fits in
+    let reads = ap read_found (parsed.matches (ap is_simple app ∙ refl)).1 ∙ taken_given _ words app clean (parsed.kinds (ap is_simple_and_free app ∙ is_usable)) in
     IfOk-weaker c.form_in.result _ _ (λ form says. form_from_given words (view_of form) (subst (λ (o : Option Reading). SaysSome o (view_of form)) reads says)) c.form_in.ensures.ok
 
 pub returns-in-Ok-try_get_matches_from-clause-no_form : goal.returns-in-Ok-try_get_matches_from-clause-no_form
 returns-in-Ok-try_get_matches_from-clause-no_form c = λ fault form has.
     let words : List Text = map string_bytes c.args.words.now in
-    let clean = sym (list_any-map is_refused string_bytes c.args.words.now) ∙ sym c.has_refused.ensures ∙ c.if-has_refused.false in
+    let clean = refused_is c.args.words.now _ _ c.has_refused.ensures c.if-has_refused.false in
     let app = c.in-Ok.ensures in
     let parsed = c.in-Ok-try_get_matches_from.ensures in
-    let fits = parsed.kinds (ap is_simple_and_free app ∙ is_usable) in
-    let reads = ap read_found (parsed.matches (ap is_simple app ∙ refl)).1 ∙ taken_given _ words app clean fits in
+    let reads = ap read_found (parsed.matches (ap is_simple app ∙ refl)).1 ∙ taken_given _ words app clean (parsed.kinds (ap is_simple_and_free app ∙ is_usable)) in
     c.form_in.ensures.no_form fault form (subst (λ (o : Option Reading). SaysSome o form) (sym reads) (given_from_form words form has))
 
 pub returns : goal.returns
@@ -66,7 +69,7 @@ returns c = record {
   ok = tt;
   no_form = λ _ form has.
       let words : List Text = map string_bytes c.args.words.now in
-      let clean = sym (list_any-map is_refused string_bytes c.args.words.now) ∙ sym c.has_refused.ensures ∙ c.if-has_refused.false in
+      let clean = refused_is c.args.words.now _ _ c.has_refused.ensures c.if-has_refused.false in
       let app = c.in-Ok.ensures in
       elim (c.in-Err.ensures.kinds (ap is_simple_and_free app ∙ is_usable)) [
         | inl memory ↦ absurd (c.in_default-kind.not-OutOfMemory (c.kind.ensures ∙ memory))

@@ -1,6 +1,7 @@
 use Rattle.std.proofs.Common.{◌≡◌, ap, get_or, false, None, arith, length, vec_len, rules}
 use Rattle.route_chains.specs.Found.{IsFound}
-use Rattle.route_chains.proofs.Changed.{Changed, before_within, added, entries_added}
+use Rattle.route_chains.specs.Links.{AreChains}
+use Rattle.route_chains.proofs.Changed.{before_within, added, entries_added}
 use Rattle.route_chains.proofs.chains.add_slot.Goals as goal
 
 found : (c : goal.After-push_held) → IsFound c.args.slots.now.items c.args.chain (get_or c.args.heads.now.items c.args.chain None) (λ _. false) c.search-found.result.before c.search-found.result.at
@@ -9,9 +10,9 @@ found c = rw (c.deref.ensures.value, c.deref-2.ensures.value) at c.search-found.
 last : (c : goal.After-push_held) → c.len-place.result ≡ length c.args.slots.now.items
 last c = let long : length c.args.slots.now.items ≡ vec_len c.args.slots.now = search rules in omega (arith, long, c.len-place.ensures)
 
-changed : (c : goal.After-push_held) → Changed c.args.slots.now.items c.push_held.new.places.items c.link.new.heads.items
+changed : (c : goal.After-push_held) → AreChains c.push_held.new.places.items c.link.new.heads.items
 changed c =
-    added c.args.slots.now.items c.args.heads.now.items c.args.chain c.requires.links c.requires.heads c.requires.within c.requires.there c.search-found.result.before c.search-found.result.at
+    added c.args.slots.now.items c.args.heads.now.items c.args.chain c.requires.chains c.requires.there c.search-found.result.before c.search-found.result.at
     c.args.route (found c) c.len-place.result (last c) c.link.new.slots.items c.push_held.new.places.items c.link.new.heads.items c.link.ensures.slots c.link.ensures.heads c.push_held.ensures.items
 
 pub link-requires-clause-before : goal.link-requires-clause-before
@@ -20,16 +21,10 @@ link-requires-clause-before c = λ b is.
     let within = before_within c.args.chain c.deref.result.now c.search-found.result.before c.search-found.ensures.before_is b is in
     omega (arith, long, within, c.deref.ensures.len, ap length c.deref.ensures.value)
 
-pub returns-clause-links : goal.returns-clause-links
-returns-clause-links c = (changed c).links
-
-pub returns-clause-heads : goal.returns-clause-heads
-returns-clause-heads c = (changed c).starts
-
-pub returns-clause-within : goal.returns-clause-within
-returns-clause-within c = (changed c).within
+pub returns-clause-chains : goal.returns-clause-chains
+returns-clause-chains c = changed c
 
 pub returns-clause-entries : goal.returns-clause-entries
 returns-clause-entries c =
-    entries_added c.args.slots.now.items c.args.heads.now.items c.args.chain c.requires.links c.requires.heads c.requires.within c.requires.there c.search-found.result.before c.search-found.result.at
+    entries_added c.args.slots.now.items c.args.heads.now.items c.args.chain c.requires.chains c.requires.there c.search-found.result.before c.search-found.result.at
     c.args.route (found c) c.len-place.result (last c) c.link.new.slots.items c.push_held.new.places.items c.link.new.heads.items c.link.ensures.slots c.link.ensures.heads c.push_held.ensures.items
