@@ -1,7 +1,7 @@
 -- The ranges of networks, and to which of them they belong, as one network comes, goes or is changed.
 use Rattle.std.proofs.Common.{◌≡◌, ℕ, ◌==◌, ◌||◌, ◌&&◌, Bool, true, false, cond, not, List, [], ◌∷◌, ◌++◌, Some, None, refl, sym, ap, subst, ◌∙◌, inl, inr}
-use Rattle.std.specs.List.{list_any}
-use Rattle.std.proofs.lemmas.Bool.{cases_Bool, and_parts, and_from, both_ways, eqb-true, eq-eqb, false≢true}
+use Rattle.std.specs.List.{list_any, AllByRecursion}
+use Rattle.std.proofs.lemmas.Bool.{cases_Bool, and_parts, and_from, both_ways, eqb-true, eq-eqb, false≢true, or_from}
 use Rattle.std.proofs.lemmas.List.Folds.{list_any-append}
 use Rattle.std.proofs.lemmas.Option.{none-some, same_Some}
 use Rattle.list_lemmas.proofs.Anys.{none-weaker}
@@ -17,7 +17,7 @@ use Rattle.uid_ranges.specs.Ranges.{has, meets_any}
 use Rattle.uid_ranges.specs.Ranks.{all_at, ranked_without, users_meet_at}
 use Rattle.uid_ranges.specs.declared.range.UidRange.{UidRange}
 use Rattle.uid_ranges.specs.declared.ranked.Ranked.{Ranked}
-use Rattle.network_store.specs.Kin.{kin_meet}
+use Rattle.network_store.specs.Kin.{class_meets, kin_meet}
 use Rattle.network_store.specs.Owners.{LeadsToOwner}
 use Rattle.network_store.specs.RankIndex.{any_meets, has_among, has_ranked, owner_of, same_ranked}
 use Rattle.network_store.specs.Store.{with_net, has_range, FindOwners, AreIndexed}
@@ -26,7 +26,7 @@ use Rattle.network_store.specs.declared.network.StoredNetwork.{StoredNetwork}
 use Rattle.network_store.specs.declared.rank_index.OwnedRange.{OwnedRange}
 use Rattle.network_store.proofs.Owned.{same_ranked-Decides, at_rank, clash-self, any-owned}
 use Rattle.list_lemmas.proofs.Numbers.{eqb-refl}
-use Rattle.network_store.proofs.Owners.{owners-same, owners-push, owners-more, owners-less, owners-drop, owned-at, id-found, mine-all}
+use Rattle.network_store.proofs.Owners.{IsOwned, owners-same, owners-push, owners-more, owners-less, owners-drop, owned-at, id-found, mine-all}
 
 -- the network keeps its interfaces and ranges
 pub owners-kept : (id : ℕ) (change : Network → Network) → ((n : Network) → (change n).id ≡ n.id) → ((n : Network) (link : ℕ) → has_link (change n) link ≡ has_link n link)
@@ -104,18 +104,20 @@ lacks rank more r list crowd none = none-weaker (λ x. same_ranked x r) (crowded
     ]
 
 -- no network of the class has a range that meets one of these
-kin-lacks : (class rank : ℕ) (more : List UidRange) (n : Network) (ns : List Network) (r : Ranked) → class_of n.kind ≡ class → crowded rank more r ≡ true → kin_meet rank more n ns ≡ false
-    → list_any (λ m. has_range class m r) ns ≡ false
-kin-lacks class rank more n ns r same crowd none =
-    none-weaker (λ m. has_range class m r) (λ m. (class_of m.kind == class_of n.kind) && users_meet_at rank (ranges_of m.kind) more) less ns none
+kin-some : (class rank : ℕ) (more : List UidRange) (ns : List Network) (r : Ranked) → crowded rank more r ≡ true → class_meets class rank more ns ≡ false → list_any (λ m. has_range class m r) ns ≡ false
+kin-some class rank more ns r crowd none = none-weaker (λ m. has_range class m r) (λ m. (class_of m.kind == class) && users_meet_at rank (ranges_of m.kind) more) less ns none
   where
-    less : (m : Network) → ((class_of m.kind == class_of n.kind) && users_meet_at rank (ranges_of m.kind) more) ≡ false → has_range class m r ≡ false
+    less : (m : Network) → ((class_of m.kind == class) && users_meet_at rank (ranges_of m.kind) more) ≡ false → has_range class m r ≡ false
     less m free = elim (cases_Bool (class_of m.kind == class)) as (λ _. has_range class m r ≡ false) [
       | inl e ↦
-          let apart : users_meet_at rank (ranges_of m.kind) more ≡ false = rw (same, e) at free in
+          let apart : users_meet_at rank (ranges_of m.kind) more ≡ false = rw e at free in
           rw (e, lacks rank more r (ranges_of m.kind) crowd apart) refl
       | inr e ↦ rw e refl
     ]
+
+kin-lacks : (class rank : ℕ) (more : List UidRange) (n : Network) (ns : List Network) (r : Ranked) → class_of n.kind ≡ class → crowded rank more r ≡ true → kin_meet rank more n ns ≡ false
+    → list_any (λ m. has_range class m r) ns ≡ false
+kin-lacks class rank more n ns r same crowd none = kin-some class rank more ns r crowd (subst (λ c. class_meets c rank more ns ≡ false) same none)
 
 in-all : (rank : ℕ) (more : List UidRange) (r : Ranked) → has_ranked (all_at rank more) r ≡ true → crowded rank more r ≡ true
 in-all rank [] r there = absurd (false≢true there)
@@ -238,3 +240,75 @@ indexed-start es by_link users apps n entries no_links no_users no_apps id local
       keyed = refl;
       owners = owners-come [] [] [] [] (net_of n) (ap (λ (m : Network). m.interfaces) local) (ap (λ (m : Network). ranges_of m.kind) local) nothing;
     }
+
+-- some network of the class has a range of this rank that meets one of these, exactly where the order has one
+
+owned-any : (q : Ranked → Bool) (r : Ranked) (i : ℕ) (xs : List OwnedRange) → q r ≡ true → owner_of xs r ≡ Some i → list_any (λ e. q e.range) xs ≡ true
+owned-any q r i [] passes is = absurd (none-some i is)
+owned-any q r i (x ∷ xs) passes is = elim (cases_Bool (same_ranked x.range r)) as (λ _. list_any (λ e. q e.range) (x ∷ xs) ≡ true) [
+  | inl s ↦ let here : q x.range ≡ true = ap q ((same_ranked-Decides x.range r).0 s) ∙ passes in rw here refl
+  | inr s ↦ or-later (q x.range) (list_any (λ e. q e.range) xs) (owned-any q r i xs passes (rw s at is))
+]
+  where
+    or-later : (a b : Bool) → b ≡ true → (a || b) ≡ true
+    or-later true b h = refl
+    or-later false b h = h
+
+-- where the order has none, no network that leads there has
+list-lacks : (q : Ranked → Bool) (list : List Ranked) → ((r : Ranked) → has_ranked list r ≡ true → q r ≡ false) → list_any q list ≡ false
+list-lacks q [] none = refl
+list-lacks q (x ∷ xs) none =
+    or_from (q x) (list_any q xs) (none x (rw ((same_ranked-Decides x x).1 refl) refl)) (list-lacks q xs (λ r there. none r (or-later (same_ranked x r) (has_ranked xs r) there)))
+  where
+    or-later : (a b : Bool) → b ≡ true → (a || b) ≡ true
+    or-later true b h = refl
+    or-later false b h = h
+
+kin-none : (class rank : ℕ) (more : List UidRange) (index : List OwnedRange) (ns : List Network) → any_meets rank more index ≡ false → AllByRecursion (IsOwned (has_range class) (owner_of index)) ns
+    → list_any (λ m. (class_of m.kind == class) && users_meet_at rank (ranges_of m.kind) more) ns ≡ false
+kin-none class rank more index [] none owned = refl
+kin-none class rank more index (m ∷ ms) none owned =
+    or_from ((class_of m.kind == class) && users_meet_at rank (ranges_of m.kind) more) (list_any (λ m. (class_of m.kind == class) && users_meet_at rank (ranges_of m.kind) more) ms) here (kin-none class rank more index ms none owned.1)
+  where
+    lacks-one : (class_of m.kind == class) ≡ true → (r : Ranked) → has_ranked (ranges_of m.kind) r ≡ true → crowded rank more r ≡ false
+    lacks-one e r there = elim (cases_Bool (crowded rank more r)) as (λ _. crowded rank more r ≡ false) [
+      | inl c ↦ absurd (both_ways (any_meets rank more index) none (owned-any (crowded rank more) r m.id index c (owned.0 r (and_from (class_of m.kind == class) (has_ranked (ranges_of m.kind) r) e there))))
+      | inr f ↦ f
+    ]
+
+    here : ((class_of m.kind == class) && users_meet_at rank (ranges_of m.kind) more) ≡ false
+    here = elim (cases_Bool (class_of m.kind == class)) as (λ _. ((class_of m.kind == class) && users_meet_at rank (ranges_of m.kind) more) ≡ false) [
+      | inl e ↦ rw e (list-lacks (crowded rank more) (ranges_of m.kind) (λ r there. lacks-one e r there))
+      | inr e ↦ rw e refl
+    ]
+
+pub kin-is : (class rank : ℕ) (more : List UidRange) (index : List OwnedRange) (ns : List Network) → LeadsToOwner (has_range class) (owner_of index) ns
+    → any_meets rank more index ≡ class_meets class rank more ns
+kin-is class rank more index ns leads =
+    let kin = class_meets class rank more ns in
+    elim (cases_Bool (any_meets rank more index)) as (λ _. any_meets rank more index ≡ kin) [
+      | inl any ↦ elim (cases_Bool kin) as (λ _. any_meets rank more index ≡ kin) [
+        | inl t ↦ any ∙ sym t
+        | inr f ↦
+            let it = any-owned (crowded rank more) index any in
+            absurd (none-some it.owner (sym (leads.unowned it.range (kin-some class rank more ns it.range it.passes f)) ∙ it.owned))
+      ]
+      | inr none ↦ none ∙ sym (kin-none class rank more index ns none leads.owned)
+    ]
+
+-- the local network has no ranges
+pub local-apart : (rank : ℕ) (more : List UidRange) (ns : List Network) → class_meets 0 rank more ns ≡ false
+local-apart rank more [] = refl
+local-apart rank more (n ∷ ns) = or_from ((class_of n.kind == 0) && users_meet_at rank (ranges_of n.kind) more) (class_meets 0 rank more ns) (here n.kind) (local-apart rank more ns)
+  where
+    here : (k : Kind) → ((class_of k == 0) && users_meet_at rank (ranges_of k) more) ≡ false
+    here kind.Local = refl
+    here (kind.Physical needed apps) = refl
+    here (kind.Virtual secure users) = refl
+
+-- what the order of the class answers
+pub kin-class : (rank : ℕ) (more : List UidRange) (users apps : List OwnedRange) (ns : List Network) (k : Kind) (answer : Bool) → (class_of k ≡ 0 → answer ≡ false) → (class_of k ≡ 1 → answer ≡ any_meets rank more apps) → (class_of k ≡ 2 → answer ≡ any_meets rank more users)
+    → LeadsToOwner (has_range 2) (owner_of users) ns → LeadsToOwner (has_range 1) (owner_of apps) ns → answer ≡ class_meets (class_of k) rank more ns
+kin-class rank more users apps ns kind.Local answer local by_apps by_users of_users of_apps = local refl ∙ sym (local-apart rank more ns)
+kin-class rank more users apps ns (kind.Physical needed list) answer local by_apps by_users of_users of_apps = by_apps refl ∙ kin-is 1 rank more apps ns of_apps
+kin-class rank more users apps ns (kind.Virtual secure list) answer local by_apps by_users of_users of_apps = by_users refl ∙ kin-is 2 rank more users ns of_users

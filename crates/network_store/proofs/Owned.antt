@@ -1,9 +1,12 @@
 -- To which network each range belongs, with one range more and one fewer.
-use Rattle.std.proofs.Common.{◌≡◌, ℕ, ◌+◌, ◌==◌, ◌&&◌, ◌||◌, Bool, true, false, cond, not, List, [], ◌∷◌, ◌++◌, take, slice_get, filter, Option, Some, None, refl, sym, ap, ◌∙◌, arith, inl, inr}
+use Rattle.std.proofs.Common.{◌≡◌, ℕ, zero, suc, ◌+◌, ◌==◌, ◌&&◌, ◌||◌, Bool, true, false, cond, not, List, [], ◌∷◌, ◌++◌, take, slice_get, filter, Option, Some, None, refl, sym, ap, ◌∙◌, arith, inl, inr}
 use Rattle.std.specs.Bool.{Decides}
 use Rattle.std.specs.List.{list_any}
 use Rattle.std.proofs.lemmas.Bool.{cases_Bool, and_parts, and_from, or_parts, or_from, both_ways, false_from_ne_true, eqb-true, false≢true}
 use Rattle.std.proofs.lemmas.Bool.Decides.{nat_tests}
+use Rattle.std.proofs.lemmas.List.Folds.{list_any-append}
+use Rattle.std.proofs.lemmas.Option.{none-some, same_Some}
+use Rattle.list_lemmas.proofs.Anys.{none-weaker}
 use Rattle.list_lemmas.proofs.Found.{found-filter}
 use Rattle.list_lemmas.proofs.Numbers.{eqb-refl}
 use Rattle.uid_ranges.specs.Range.{meets, same_range}
@@ -137,4 +140,50 @@ any-owned q (x ∷ xs) any = elim (cases_Bool (q x.range)) as (λ _. IsOwnedBy q
     later rest = elim (cases_Bool (same_ranked x.range rest.range)) as (λ _. IsOwnedBy q (x ∷ xs)) [
       | inl s ↦ record { range = rest.range; passes = rest.passes; owner = x.owner; owned = rw s refl }
       | inr s ↦ record { range = rest.range; passes = rest.passes; owner = rest.owner; owned = rw s rest.owned }
+    ]
+
+or-four : (a b c d : Bool) → ((a || b) || (c || d)) ≡ ((a || c) || (b || d))
+or-four true b c d = refl
+or-four false true true d = refl
+or-four false true false d = refl
+or-four false false c d = refl
+
+-- one range more
+pub meets-more : (rank : ℕ) (xs : List UidRange) (u : UidRange) (index : List OwnedRange) → any_meets rank (xs ++ u ∷ []) index ≡ (any_meets rank xs index || list_any (λ e. clash e.range (at_rank rank u)) index)
+meets-more rank xs u [] = refl
+meets-more rank xs u (e ∷ es) =
+    ap (λ b. b || any_meets rank (xs ++ u ∷ []) es) (ap (λ b. (e.range.rank == rank) && b) (list_any-append (meets e.range.users) xs (u ∷ []) ∙ ap (λ b. meets_any e.range.users xs || b) (or-false (meets e.range.users u))) ∙ spread (e.range.rank == rank) (meets_any e.range.users xs) (meets e.range.users u))
+    ∙ ap (λ b. (((e.range.rank == rank) && meets_any e.range.users xs) || clash e.range (at_rank rank u)) || b) (meets-more rank xs u es)
+    ∙ or-four ((e.range.rank == rank) && meets_any e.range.users xs) (clash e.range (at_rank rank u)) (any_meets rank xs es) (list_any (λ e. clash e.range (at_rank rank u)) es)
+  where
+    spread : (a b c : Bool) → (a && (b || c)) ≡ ((a && b) || (a && c))
+    spread true b c = refl
+    spread false b c = refl
+
+pub none-meets : (rank : ℕ) (index : List OwnedRange) → any_meets rank [] index ≡ false
+none-meets rank [] = refl
+none-meets rank (e ∷ es) = or_from ((e.range.rank == rank) && false) (any_meets rank [] es) (none (e.range.rank == rank)) (none-meets rank es)
+  where
+    none : (b : Bool) → (b && false) ≡ false
+    none true = refl
+    none false = refl
+
+-- a range of the list that meets one
+pub meets-at : (rank i : ℕ) (more : List UidRange) (u : UidRange) (index : List OwnedRange) → slice_get more i ≡ Some u → list_any (λ e. clash e.range (at_rank rank u)) index ≡ true → any_meets rank more index ≡ true
+meets-at rank i more u index at any = elim (cases_Bool (any_meets rank more index)) as (λ _. any_meets rank more index ≡ true) [
+  | inl t ↦ t
+  | inr f ↦ absurd (both_ways (list_any (λ e. clash e.range (at_rank rank u)) index) (none-weaker (λ e. clash e.range (at_rank rank u)) (λ e. (e.range.rank == rank) && meets_any e.range.users more) less index f) any)
+]
+  where
+    among : (a : UidRange) (us : List UidRange) (j : ℕ) → slice_get us j ≡ Some u → meets_any a us ≡ false → meets a u ≡ false
+    among a [] j is none = absurd (none-some u is)
+    among a (v ∷ vs) zero is none = ap (meets a) (sym (same_Some v u is)) ∙ (or_parts (meets a v) (meets_any a vs) none).0
+    among a (v ∷ vs) (suc j) is none = among a vs j is (or_parts (meets a v) (meets_any a vs) none).1
+
+    less : (e : OwnedRange) → ((e.range.rank == rank) && meets_any e.range.users more) ≡ false → clash e.range (at_rank rank u) ≡ false
+    less e none = elim (cases_Bool (e.range.rank == rank)) as (λ _. clash e.range (at_rank rank u) ≡ false) [
+      | inl same ↦
+          let apart : meets_any e.range.users more ≡ false = rw same at none in
+          rw (same, among e.range.users more i at apart) refl
+      | inr other ↦ rw other refl
     ]

@@ -192,3 +192,45 @@ pub cut-at : (r : Ranked) (xs ys zs : List OwnedRange) (place : ℕ) (o : Option
 cut-at r xs ys zs place o rises first second is at =
     filter-cut r xs rises ∙ ap (λ l. cut r xs (prefix_len (λ e. ends_before r.rank r.users.first.number e.range) l)) (sym first) ∙ ap (cut r xs) (sym is)
     ∙ ap (λ o. elim o [ Some e ↦ if same_ranked e.range r then remove xs place else xs | None ↦ xs ]) (ap (λ l. slice_get l place) (sym second) ∙ sym at)
+
+-- whether a range meets one of the list
+
+-- what ends before a range doesn't meet it
+ended-clash : (a b : Ranked) → ends_before b.rank b.users.first.number a ≡ true → clash a b ≡ false
+ended-clash a b h = grind (arith, nat_tests)
+
+-- nor does what comes after one that hasn't ended and doesn't meet it
+later-clash : (a b c : Ranked) → ends_before b.rank b.users.first.number a ≡ false → clash a b ≡ false → ends_before c.rank c.users.first.number a ≡ true → clash c b ≡ false
+later-clash a b c h k l = let o = a.users.ordered in let p = b.users.ordered in grind (arith, nat_tests)
+
+none-met : (r : Ranked) (x : OwnedRange) (xs : List OwnedRange) → ends_before r.rank r.users.first.number x.range ≡ false → clash x.range r ≡ false → list_all (comes_before x) xs ≡ true → list_any (λ e. clash e.range r) xs ≡ false
+none-met r x [] h k all = refl
+none-met r x (y ∷ ys) h k all =
+    let parts = and_parts (comes_before x y) (list_all (comes_before x) ys) all in
+    rw (later-clash x.range r y.range h k parts.0) (none-met r x ys h k parts.1)
+
+abbrev pub met : Ranked → Option OwnedRange → Bool
+met r None = false
+met r (Some e) = clash e.range r
+
+-- only the range at that place can meet it
+pub any-met : (r : Ranked) (xs : List OwnedRange) → rise xs ≡ true → list_any (λ e. clash e.range r) xs ≡ met r (slice_get xs (prefix_len (λ e. ends_before r.rank r.users.first.number e.range) xs))
+any-met r [] rises = refl
+any-met r (x ∷ xs) rises =
+    let parts = and_parts (list_all (comes_before x) xs) (rise xs) rises in
+    let Goal : Type 0 = list_any (λ e. clash e.range r) (x ∷ xs) ≡ met r (slice_get (x ∷ xs) (prefix_len (λ e. ends_before r.rank r.users.first.number e.range) (x ∷ xs))) in
+    elim (cases_Bool (ends_before r.rank r.users.first.number x.range)) as (λ _. Goal) [
+      | inl e ↦ rw (ended-clash x.range r e, e) (any-met r xs parts.1 ∙ ap (λ n. met r (slice_get (x ∷ xs) n)) (one-more (prefix_len (λ e. ends_before r.rank r.users.first.number e.range) xs)))
+      | inr e ↦ elim (cases_Bool (clash x.range r)) as (λ _. Goal) [
+        | inl h ↦ rw e (rw h refl)
+        | inr h ↦ rw e (rw h (none-met r x xs e h parts.0))
+      ]
+    ]
+  where
+    one-more : (n : ℕ) → suc n ≡ 1 + n
+    one-more n = omega arith
+
+pub met-at : (r : Ranked) (xs : List OwnedRange) (place uid : ℕ) (o : Option OwnedRange) → rise xs ≡ true → uid ≡ r.users.first.number → place ≡ prefix_len (λ e. ends_before r.rank uid e.range) xs → o ≡ slice_get xs place
+    → met r o ≡ list_any (λ e. clash e.range r) xs
+met-at r xs place uid o rises first is at =
+    ap (met r) (at ∙ ap (slice_get xs) (is ∙ ap (λ u. prefix_len (λ e. ends_before r.rank u e.range) xs) first)) ∙ sym (any-met r xs rises)

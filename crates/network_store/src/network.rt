@@ -3,8 +3,8 @@ ghost use Rattle.std.specs.List.{list_any};
 ghost use Rattle.fwmark.specs.declared.permission.Permission.{Permission};
 ghost use Rattle.networks.specs.Kinds.{permission_of, ranges_of, is_local, is_physical, is_virtual, is_secure, is_bypass};
 ghost use Rattle.networks.specs.Network.{has_link, is_keyed_by};
-ghost use Rattle.uid_ranges.specs.Ranges.{AreDisjoint};
-ghost use Rattle.uid_ranges.specs.Ranks.{last_rank, users_meet};
+ghost use Rattle.uid_ranges.specs.Ranges.{AreDisjoint, meets_any};
+ghost use Rattle.uid_ranges.specs.Ranks.{last_rank, has_users, users_meet};
 ghost use Rattle.network_store.specs.Holders.{is_vpn};
 ghost use Rattle.network_store.specs.Stored as stored;
 
@@ -47,6 +47,24 @@ fn has_link(interfaces: &[u16], link: u16) -> bool
     ensures { result ≡ list_any (λ other. other == link) interfaces.now }
 {
     interfaces.iter().any(|other| *other == link)
+}
+
+fn has_users(ranges: &[Ranked], range: UidRange) -> bool
+    ensures { result ≡ has_users ranges.now range }
+{
+    ranges.iter().any(|one| range.is_same(&one.users))
+}
+
+fn meets_any(one: &Ranked, list: &[UidRange]) -> bool
+    ensures { result ≡ meets_any one.now.users list.now }
+{
+    list.iter().any(|other| one.users.meets(other))
+}
+
+fn users_meet(ranges: &[Ranked], list: &[UidRange]) -> bool
+    ensures { result ≡ users_meet ranges.now list.now }
+{
+    ranges.iter().any(|one| meets_any(one, list))
 }
 
 impl StoredKind {
@@ -107,6 +125,20 @@ impl StoredKind {
             StoredKind::Virtual { secure, .. } => !*secure,
             StoredKind::Local | StoredKind::Physical { .. } => false,
         }
+    }
+
+    /// Whether this very range stands among them, at whatever rank.
+    pub fn has(&self, range: UidRange) -> bool
+        ensures { result ≡ has_users (ranges_of (stored.kind_of self.now)) range }
+    {
+        has_users(self.ranges(), range)
+    }
+
+    /// Whether one of them meets one of these.
+    pub fn meets(&self, list: &[UidRange]) -> bool
+        ensures { result ≡ users_meet (ranges_of (stored.kind_of self.now)) list.now }
+    {
+        users_meet(self.ranges(), list)
     }
 
     /// Whether it is a VPN of this kind.

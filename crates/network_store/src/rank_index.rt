@@ -49,6 +49,13 @@ impl OwnedRange {
         self.range.users.last().number() < uid.number()
     }
 
+    // Whether it is of this one's rank and shares a UID with it.
+    fn clashes(&self, range: &Ranked) -> bool
+        ensures { result ≡ clash self.now.range range.now }
+    {
+        self.range.rank == range.rank && self.range.users.meets(&range.users)
+    }
+
     fn holds_at(&self, rank: u8, uid: Uid) -> bool
         ensures { result ≡ holds_at rank uid.number self.now.range }
     {
@@ -91,6 +98,18 @@ fn owner_in(ranges: &[OwnedRange], rank: u8, uid: Uid) -> Option<u16>
     Some(one.owner)
 }
 
+// Whether a range of the list meets this one at its rank.
+fn meets_one(ranges: &[OwnedRange], range: &Ranked) -> bool
+    requires { rise ranges.now ≡ true }
+    ensures { result ≡ list_any (λ e. clash e.range range.now) ranges.now }
+{
+    let place = place_of(ranges, range.rank, range.users.first());
+    match range_at(ranges, place) {
+        Some(one) => one.clashes(range),
+        None => false,
+    }
+}
+
 impl RankIndex {
     pub(crate) fn empty(alloc: Global) -> RankIndex
         ensures { result.ranges ≡ [] }
@@ -121,6 +140,18 @@ impl RankIndex {
             }
         }
         None
+    }
+
+    // Whether a range of this rank meets one of these.
+    pub(crate) fn meets_at(&self, more: &[UidRange], rank: u8) -> bool
+        ensures { result ≡ any_meets rank more.now self.now.ranges }
+    {
+        for users in more {
+            if meets_one(&self.ranges, &ranked(*users, rank)) {
+                return true;
+            }
+        }
+        false
     }
 
     pub(crate) fn reserve(&mut self, more: usize) -> Result<(), AllocError>

@@ -95,6 +95,27 @@ fn enter(
     }
 }
 
+// Whether a range of this rank, of a network of this kind's class, meets one of these.
+fn meets_kin(
+    users: &RankIndex,
+    apps: &RankIndex,
+    kind: &StoredKind,
+    more: &[UidRange],
+    rank: u8,
+) -> bool
+    ensures local { class_of (stored.kind_of kind.now) ≡ 0 → result ≡ false }
+    ensures apps { class_of (stored.kind_of kind.now) ≡ 1 →
+        result ≡ any_meets rank more.now apps.now.ranges }
+    ensures users { class_of (stored.kind_of kind.now) ≡ 2 →
+        result ≡ any_meets rank more.now users.now.ranges }
+{
+    match kind {
+        StoredKind::Local => false,
+        StoredKind::Physical { .. } => apps.meets_at(more, rank),
+        StoredKind::Virtual { .. } => users.meets_at(more, rank),
+    }
+}
+
 // Takes those ranges of a network of this kind out that are among these.
 fn leave(users: &mut RankIndex, apps: &mut RankIndex, kind: &StoredKind, gone: &[UidRange])
     ensures users { (r : Ranked) → owner_of users.new.ranges r ≡
@@ -371,6 +392,18 @@ impl StoredNetworks {
             return;
         };
         network.remove_route(link, key);
+    }
+
+    /// Whether a network of this one's class, physical or virtual, has a range of this rank that meets one of these.
+    pub fn kin_meet(&self, id: u16, more: &[UidRange], rank: u8) -> bool
+        ensures known { IfSome (find_id id (store.nets_of self.now)) (λ n.
+            result ≡ kin_meet rank more.now n (store.nets_of self.now)) }
+        ensures unknown { find_id id (store.nets_of self.now) ≡ None → result ≡ false }
+    {
+        let Some(network) = self.by_id.get(&id) else {
+            return false;
+        };
+        meets_kin(&self.users, &self.apps, &network.kind, more, rank)
     }
 
     /// Makes room for so many ranges more in the network of this id. The networks stay.
