@@ -11,12 +11,5 @@ pub mod Sorted
 pub mod GoodStates
 pub mod Tables
 pub mod FirstState
-pub mod Lists
-pub mod LinkLists
-pub mod Accepted
 pub mod NetworkChanges
-pub mod Puts
-pub mod RouteLists
-pub mod Goodness
-pub mod CountChanges
-pub mod Limits
+pub mod Turns
