@@ -11,5 +11,16 @@ pub mod Sorted
 pub mod GoodStates
 pub mod Tables
 pub mod FirstState
+pub mod Lists
+pub mod LinkLists
+pub mod Accepted
+pub mod Members
+pub mod NetworkParts
+pub mod PairLists
+pub mod UserLists
 pub mod NetworkChanges
+pub mod NetworkLists
+pub mod RouteLists
+pub mod NetworkSteps
+pub mod Goodness
 pub mod Turns
