@@ -11,7 +11,7 @@ use Rattle.networks.specs.Network.{is_keyed_by, has_link}
 use Rattle.networks.specs.declared.kind.Kind.TheVariants as kind
 use Rattle.policy_state.specs.declared.change.Change.{Change}
 use Rattle.policy_state.specs.declared.change.Change.TheVariants as change
-use Rattle.policy_state.specs.Good.{most_interfaces}
+use Rattle.policy_state.specs.Good.{most_interfaces, most_ranges}
 use Rattle.policy_state.specs.Step.{is_of_user, is_user, is_pair, is_protectable, with_net, with_link, with_route, without_route, with_ranges, without_ranges, with_permission, with_new_net, without_net, without_interface, with_permission_of}
 use Rattle.policy_state.specs.View.{StateView, Network}
 use Rattle.uid_ranges.specs.Ranges.{AreDisjoint, without}
@@ -50,6 +50,7 @@ has_link_at net networks link = elim (find_id net networks) [ Some n ↦ has_lin
 -- the ranges are disjoint and meet no range of the network, nor one of their rank of a network of its kind
 pub record RangesFit (net rank : ℕ) (ranges : List UidRange) (networks : List Network) : Type 0 where
   pub low : rank ≤ last_rank
+  pub few : length ranges ≤ most_ranges
   pub disjoint : AreDisjoint ranges
   pub apart : IfSome (find_id net networks) (λ n. users_meet (ranges_of n.kind) ranges ≡ false)
   pub ranks_apart : IfSome (find_id net networks) (λ n. kin_meet rank ranges n networks ≡ false)
