@@ -17,7 +17,7 @@ pub mod Accepted
 pub mod Members
 pub mod NetworkParts
 pub mod PairLists
-pub mod UserLists
+pub mod FewUsers
 pub mod NetworkChanges
 pub mod NetworkLists
 pub mod Puts

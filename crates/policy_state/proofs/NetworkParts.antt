@@ -1,23 +1,21 @@
 -- Networks that differ, networks of one class, and networks found by their ids.
-use Rattle.std.proofs.Common.{◌≡◌, ◌∙◌, ◌≤◌, ◌==◌, ◌&&◌, ◌||◌, ℕ, Bool, true, false, not, Option, Some, None, List, [], ◌∷◌, refl, sym, ap, ap₂, subst, inl, inr, is_none, is_some}
-use Rattle.std.specs.Prelude.{◌⊎◌, nat_le}
-use Rattle.std.specs.List.{list_all, list_any}
-use Rattle.std.proofs.lemmas.Bool.{cases_Bool, false≢true, and_parts, and_from, both_ways, not_from_false, not-true, eqb-true, eq-eqb, false_from_ne_true, or_left, or_right}
+use Rattle.std.proofs.Common.{◌≡◌, ◌∙◌, ◌==◌, ◌&&◌, ◌||◌, ℕ, Bool, true, false, not, Option, Some, None, List, [], ◌∷◌, refl, sym, ap, ap₂, subst, inl, inr, is_none, is_some}
+use Rattle.std.specs.Prelude.{nat_le}
+use Rattle.std.specs.List.{list_all}
+use Rattle.std.proofs.lemmas.Bool.{cases_Bool, false≢true, and_parts, and_from, both_ways, not_from_false, not-true, eqb-true, eq-eqb, false_from_ne_true}
 use Rattle.std.proofs.lemmas.Option.{none-some, same_Some}
-use Rattle.list_lemmas.specs.Pairwise.{pairwise}
 use Rattle.list_lemmas.proofs.Numbers.{eqb-turned}
 use Rattle.networks.specs.Kinds.{class_of, ranges_of, is_local, is_physical, is_virtual}
 use Rattle.networks.specs.Lists.{find_id, find_link}
 use Rattle.networks.specs.Network.{has_link}
 use Rattle.networks.specs.declared.kind.Kind.{Kind}
-use Rattle.uid_ranges.specs.Range.{meets}
 use Rattle.policy_state.specs.Good.{differ, nets_differ, ranks_differ, IsWellFormed}
-use Rattle.policy_state.specs.Step.{is_in, is_in_any}
+use Rattle.policy_state.specs.Step.{is_in_any}
 use Rattle.policy_state.specs.View.{StateView, Network, Ranked, Local, Physical, Virtual}
 use Rattle.policy_state.proofs.AlikeRules.{all-has}
 use Rattle.policy_state.proofs.GoodStates.{same-ids}
 use Rattle.policy_state.proofs.Members.{all-from, find-none}
-use Rattle.policy_state.proofs.Owners.{Has, any-from, find-has, found, link-has}
+use Rattle.policy_state.proofs.Owners.{Has, any-from, found}
 
 pub has-link : (n : Network) (link : ℕ) → Has n.interfaces link → has_link n link ≡ true
 has-link n link there = any-from (λ i. i == link) n.interfaces link there (eq-eqb link link refl)
