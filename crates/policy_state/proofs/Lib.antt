@@ -8,13 +8,14 @@ pub mod RowTests
 pub mod RuleCounts
 pub mod SharedPackets
 pub mod Sorted
+pub mod Members
+pub mod Differing
 pub mod GoodStates
 pub mod Tables
 pub mod FirstState
 pub mod Lists
 pub mod LinkLists
 pub mod Accepted
-pub mod Members
 pub mod NetworkParts
 pub mod PairLists
 pub mod FewUsers
@@ -24,5 +25,6 @@ pub mod Puts
 pub mod RouteLists
 pub mod NetworkSteps
 pub mod Goodness
+pub mod GoodFacts
 pub mod CountChanges
 pub mod Limits

@@ -18,7 +18,8 @@ use Rattle.policy_state.specs.View.{StateView, Network, Ranked, TetherPair}
 use Rattle.policy_state.proofs.AlikeRules.{all-has}
 use Rattle.policy_state.proofs.GoodStates.{each-has, same-ids}
 use Rattle.policy_state.proofs.Members.{all-from, all-implied, any-implied, each-map, pairwise-map, of_filter}
-use Rattle.policy_state.proofs.NetworkParts.{Differ, differ-parts, differ-from, differ-turned, has-link, local-class, physical-class, same-test, id-found}
+use Rattle.policy_state.proofs.Differing.{Differ, differ-parts, differ-from, differ-turned}
+use Rattle.policy_state.proofs.NetworkParts.{has-link, local-class, physical-class, same-test, id-found}
 use Rattle.policy_state.proofs.Owners.{Has, find-has}
 use Rattle.policy_state.proofs.PairLists.{pairs-kept, pairs-filter}
 

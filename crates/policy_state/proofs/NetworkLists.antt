@@ -18,7 +18,8 @@ use Rattle.policy_state.specs.Step.{is_in, with_new_net, without_net}
 use Rattle.policy_state.specs.View.{StateView, Network, Ranked, TetherPair}
 use Rattle.policy_state.proofs.Accepted.{is_in-at}
 use Rattle.policy_state.proofs.Members.{all-from, in_append, in_filter, of_filter}
-use Rattle.policy_state.proofs.NetworkParts.{differ-from, found-by_id, unknown}
+use Rattle.policy_state.proofs.Differing.{differ-from}
+use Rattle.policy_state.proofs.NetworkParts.{found-by_id, unknown}
 use Rattle.policy_state.proofs.Owners.{Has, Passing, any-from, of_any}
 use Rattle.policy_state.proofs.PairLists.{pairs-kept, pairs-filter}
 
