@@ -21,10 +21,8 @@ pub mod PairLists
 pub mod FewUsers
 pub mod NetworkChanges
 pub mod NetworkLists
-pub mod Puts
 pub mod RouteLists
 pub mod NetworkSteps
 pub mod Goodness
 pub mod GoodFacts
-pub mod CountChanges
-pub mod Limits
+pub mod Turns

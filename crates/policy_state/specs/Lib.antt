@@ -8,3 +8,4 @@ pub mod Step
 pub mod Change
 pub mod UserLists
 pub mod Users
+pub mod Room
