@@ -20,3 +20,4 @@ pub mod RouteLists
 pub mod Goodness
 pub mod CountChanges
 pub mod Limits
+pub mod Tallied

@@ -3,6 +3,7 @@ pub mod Parts
 pub mod Rows
 pub mod Table
 pub mod Counts
+pub mod Tallies
 pub mod Good
 pub mod Step
 pub mod Touched

@@ -1,0 +1,43 @@
+-- How many rules a state has, counted by what it has and not by the rows of the table.
+use Rattle.std.specs.Prelude.{ℕ, ◌+◌, ◌*◌, List, length, sum_by, count_by, if◌then◌else◌}
+use Rattle.networks.specs.Kinds.{ranges_of, is_free, is_virtual}
+use Rattle.policy_state.specs.Rows.{default_of, links_of}
+use Rattle.policy_state.specs.View.{Kind, Local, Physical, Virtual, Network, StateView}
+
+-- the rules that a network of this kind has by itself, for each interface, and for each interface with each range
+
+abbrev pub alone : Kind → ℕ
+alone Local = 1
+alone (Physical permission apps) = 0
+alone (Virtual secure users) = 0
+
+abbrev pub per_link : Kind → ℕ
+per_link Local = 2
+per_link (Physical permission apps) = if is_free (Physical permission apps) then 4 else 3
+per_link (Virtual secure users) = 3
+
+abbrev pub per_range : Kind → ℕ
+per_range Local = 0
+per_range (Physical permission apps) = 1
+per_range (Virtual secure users) = 3
+
+-- All of these. Beside them the default network has a rule for each of its interfaces, and so has every VPN for each of them.
+abbrev pub own : Network → ℕ
+own n = alone n.kind + per_link n.kind * length n.interfaces + per_range n.kind * (length n.interfaces * length (ranges_of n.kind))
+
+abbrev pub own_rules : List Network → ℕ
+own_rules ns = sum_by own ns
+
+abbrev pub virtuals : List Network → ℕ
+virtuals ns = count_by (λ (n : Network). is_virtual n.kind) ns
+
+-- the interfaces of the default network
+abbrev pub default_links : StateView → ℕ
+default_links s = length (links_of (default_of s))
+
+-- beside all of these, two rules stand once
+abbrev pub rules_in_all : (own virtuals links lockdown pairs : ℕ) → ℕ
+rules_in_all own virtuals links lockdown pairs = own + (virtuals + 1) * links + lockdown + pairs + 2
+
+abbrev pub tallied : StateView → ℕ
+tallied s = rules_in_all (own_rules s.networks) (virtuals s.networks) (default_links s) (length s.lockdown) (length s.pairs)
