@@ -21,3 +21,4 @@ pub mod Goodness
 pub mod CountChanges
 pub mod Limits
 pub mod Tallied
+pub mod TallyChanges

@@ -1,6 +1,8 @@
 -- How many rules a state has, counted by what it has and not by the rows of the table.
 use Rattle.std.specs.Prelude.{ℕ, ◌+◌, ◌*◌, List, length, sum_by, count_by, if◌then◌else◌}
+use Rattle.std.specs.Option.{option_map_or}
 use Rattle.networks.specs.Kinds.{ranges_of, is_free, is_virtual}
+use Rattle.networks.specs.Lists.{find_id}
 use Rattle.policy_state.specs.Rows.{default_of, links_of}
 use Rattle.policy_state.specs.View.{Kind, Local, Physical, Virtual, Network, StateView}
 
@@ -41,3 +43,7 @@ rules_in_all own virtuals links lockdown pairs = own + (virtuals + 1) * links + 
 
 abbrev pub tallied : StateView → ℕ
 tallied s = rules_in_all (own_rules s.networks) (virtuals s.networks) (default_links s) (length s.lockdown) (length s.pairs)
+
+-- what the network of this id has of a tally
+abbrev pub share : (Network → ℕ) → ℕ → List Network → ℕ
+share f net ns = option_map_or f (find_id net ns) 0
