@@ -6,5 +6,6 @@ pub mod Counts
 pub mod Tallies
 pub mod Good
 pub mod Step
-pub mod Touched
-pub mod TouchedCounts
+pub mod Change
+pub mod UserLists
+pub mod Users
