@@ -14,11 +14,15 @@ pub mod FirstState
 pub mod Lists
 pub mod LinkLists
 pub mod Accepted
+pub mod Members
+pub mod NetworkParts
+pub mod PairLists
+pub mod UserLists
 pub mod NetworkChanges
+pub mod NetworkLists
 pub mod Puts
 pub mod RouteLists
+pub mod NetworkSteps
 pub mod Goodness
-pub mod CountChanges
-pub mod Limits
 pub mod Tallied
 pub mod TallyChanges
