@@ -26,3 +26,5 @@ pub mod NetworkSteps
 pub mod Goodness
 pub mod Tallied
 pub mod TallyChanges
+pub mod CountsAfter
+pub mod CountsLess

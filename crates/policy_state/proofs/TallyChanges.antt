@@ -18,11 +18,7 @@ use Rattle.policy_state.proofs.NetworkChanges.{with_change, untouched, if_physic
 
 -- sums
 
-sum-map : {A B : Type 0} (f : B → ℕ) (g : A → B) (xs : List A) → sum_by f (map g xs) ≡ sum_by (λ x. f (g x)) xs
-sum-map f g [] = refl
-sum-map f g (x ∷ xs) = sum_by-cons f (g x) (map g xs) ∙ (ap (λ n. f (g x) + n) (sum-map f g xs) ∙ sym (sum_by-cons (λ x. f (g x)) x xs))
-
-sum-filter-le : {A : Type 0} (f : A → ℕ) (p : A → Bool) (xs : List A) → sum_by f (filter p xs) ≤ sum_by f xs
+pub sum-filter-le : {A : Type 0} (f : A → ℕ) (p : A → Bool) (xs : List A) → sum_by f (filter p xs) ≤ sum_by f xs
 sum-filter-le f p [] = omega arith
 sum-filter-le f p (x ∷ xs) = elim (cases_Bool (p x)) as (λ _. sum_by f (filter p (x ∷ xs)) ≤ sum_by f (x ∷ xs)) [
   | inl e ↦ rw e (omega (arith, sum_by-cons f x (filter p xs), sum_by-cons f x xs, sum-filter-le f p xs))
@@ -128,6 +124,14 @@ module _ (f : Network → ℕ) (net : ℕ) where
           sum_by-cons f (change n) (with_change net change ns), sum_by-cons f n ns, ap (sum_by f) (untouched net change ns (absent-at n ns keyed e)))
       | inr e ↦ omega (arith, share-later n ns e, share-at (λ m. f (change m)) net (n ∷ ns) (find_id net ns) (find-later net n ns e), ap (sum_by f) (changed-later n ns e),
           sum_by-cons f n (with_change net change ns), sum_by-cons f n ns, share-changed ns (rest-keyed n ns keyed))
+    ]
+
+    -- no more, where it has no more
+    pub sum-changed-le : ((n : Network) → f (change n) ≤ f n) → (ns : List Network) → sum_by f (with_change net change ns) ≤ sum_by f ns
+    sum-changed-le less [] = omega arith
+    sum-changed-le less (n ∷ ns) = elim (cases_Bool (net == n.id)) as (λ _. sum_by f (with_change net change (n ∷ ns)) ≤ sum_by f (n ∷ ns)) [
+      | inl e ↦ omega (arith, ap (sum_by f) (changed-here n ns e), sum_by-cons f (change n) (with_change net change ns), sum_by-cons f n ns, less n, sum-changed-le less ns)
+      | inr e ↦ omega (arith, ap (sum_by f) (changed-later n ns e), sum_by-cons f n (with_change net change ns), sum_by-cons f n ns, sum-changed-le less ns)
     ]
 
     pub ids-changed : (ns : List Network) → map (λ n. n.id) (with_change net change ns) ≡ map (λ n. n.id) ns
