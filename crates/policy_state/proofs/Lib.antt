@@ -20,10 +20,10 @@ pub mod PairLists
 pub mod UserLists
 pub mod NetworkChanges
 pub mod NetworkLists
-pub mod Puts
 pub mod RouteLists
 pub mod NetworkSteps
 pub mod Goodness
+pub mod Turns
 pub mod Tallied
 pub mod TallyChanges
 pub mod CountsAfter

@@ -84,6 +84,7 @@ linked s n link formed there absent above known idle room =
     came i (inl old) = inl old
     came i (inr (inl is)) = inr (subst (IsIdle s) is (record { known = known; in_none = λ o in_o. in_none s link o idle in_o }))
     came i (inr (inr none)) = absurd none
+
 -- an interface goes, and its routes with it
 
 pub link-left : (n : Network) (gone link : ℕ) → (link == gone) ≡ false → has_link n link ≡ true → has_link (without_link gone n) link ≡ true

@@ -41,7 +41,6 @@ few-same number most xs ys good same = record {
 
 -- permissions
 
-
 -- a permission in the place of another one
 replaced-numbers : (uid : Uid) (permission : Permission) (ps : List UserPermission) → list_any (is_of_user uid) ps ≡ true
     → map (λ (p : UserPermission). p.uid.number) (with_permission_of uid permission ps) ≡ map (λ (p : UserPermission). p.uid.number) ps

@@ -9,3 +9,4 @@ pub mod Step
 pub mod Change
 pub mod UserLists
 pub mod Users
+pub mod Room

@@ -3,6 +3,7 @@ ghost use Rattle.std.specs.Prelude.{◌≡◌};
 ghost use Rattle.std.specs.Option.{option_map};
 ghost use Rattle.network_store.specs.Store.{nets_of};
 ghost use Rattle.network_store.specs.Stored.{net_of};
+ghost use Rattle.policy_state.specs.Good.{AreNetworks};
 ghost use Rattle.policy_state.specs.Rows.{is_default, default_among, picks};
 
 use crate::row::NetworkSet;
@@ -35,6 +36,7 @@ pub fn picks(set: NetworkSet, default: Option<u16>, network: &StoredNetwork) -> 
 
 /// The default network.
 pub fn default_network(networks: &StoredNetworks, default: Option<u16>) -> Option<&StoredNetwork>
+    requires { AreNetworks (nets_of networks.now) }
     ensures { option_map (λ n. net_of n.now) result ≡ default_among (nets_of networks.now) default }
 {
     let Some(id) = default else {
