@@ -7,6 +7,7 @@ pub mod Tallies
 pub mod Good
 pub mod Step
 pub mod Change
+pub mod Accept
 pub mod UserLists
 pub mod Users
 pub mod Room

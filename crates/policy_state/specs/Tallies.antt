@@ -1,8 +1,11 @@
 -- How many rules a state has, counted by what it has and not by the rows of the table.
-use Rattle.std.specs.Prelude.{ℕ, ◌+◌, ◌*◌, List, length, sum_by, count_by, if◌then◌else◌}
+use Rattle.std.specs.Prelude.{ℕ, ◌+◌, ◌*◌, List, length, sum_by, count_by}
 use Rattle.std.specs.Option.{option_map_or}
-use Rattle.networks.specs.Kinds.{ranges_of, is_free, is_virtual}
+use Rattle.fwmark.specs.declared.permission.Permission.{Permission}
+use Rattle.fwmark.specs.declared.permission.Permission.TheVariants as needs
+use Rattle.networks.specs.Kinds.{ranges_of, is_virtual}
 use Rattle.networks.specs.Lists.{find_id}
+use Rattle.policy_state.specs.declared.count.Tallies.{Tallies}
 use Rattle.policy_state.specs.Rows.{default_of, links_of}
 use Rattle.policy_state.specs.View.{Kind, Local, Physical, Virtual, Network, StateView}
 
@@ -13,9 +16,15 @@ alone Local = 1
 alone (Physical permission apps) = 0
 alone (Virtual secure users) = 0
 
+-- of a physical network that asks for this permission: one more where it asks for none
+abbrev pub per_link_asking : Permission → ℕ
+per_link_asking needs.Nothing = 4
+per_link_asking needs.Network = 3
+per_link_asking needs.System = 3
+
 abbrev pub per_link : Kind → ℕ
 per_link Local = 2
-per_link (Physical permission apps) = if is_free (Physical permission apps) then 4 else 3
+per_link (Physical permission apps) = per_link_asking permission
 per_link (Virtual secure users) = 3
 
 abbrev pub per_range : Kind → ℕ
@@ -47,3 +56,7 @@ tallied s = rules_in_all (own_rules s.networks) (virtuals s.networks) (default_l
 -- what the network of this id has of a tally
 abbrev pub share : (Network → ℕ) → ℕ → List Network → ℕ
 share f net ns = option_map_or f (find_id net ns) 0
+
+-- what is kept of them as networks change
+abbrev pub tallies_of : List Network → Tallies
+tallies_of ns = record { own = own_rules ns; virtuals = virtuals ns }
