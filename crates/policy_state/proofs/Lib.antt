@@ -26,3 +26,7 @@ pub mod NetworkSteps
 pub mod Goodness
 pub mod GoodFacts
 pub mod Turns
+pub mod Tallied
+pub mod TallyChanges
+pub mod CountsAfter
+pub mod CountsLess

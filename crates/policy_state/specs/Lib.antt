@@ -3,9 +3,11 @@ pub mod Parts
 pub mod Rows
 pub mod Table
 pub mod Counts
+pub mod Tallies
 pub mod Good
 pub mod Step
 pub mod Change
+pub mod Accept
 pub mod UserLists
 pub mod Users
 pub mod Room

@@ -1,7 +1,15 @@
 //! The state of the policy, the commands that change it, and the table of rules that it stands for.
 #![tactic(auto)]
 
+mod accept;
+mod accept_links;
+mod accept_networks;
+mod accept_pairs;
+mod accept_ranges;
+mod accept_routes;
+mod accept_users;
 mod change;
+mod count;
 mod fault;
 mod laws;
 mod parts;

@@ -1,6 +1,7 @@
 ghost use Rattle.std.specs.Prelude.{◌≡◌, IfOk};
 ghost use Rattle.policy_state.specs.Parts.{view_of};
 
+use crate::count::Tallies;
 use crate::tether::TetherPair;
 use crate::users::{PermissionTable, ProtectList};
 use link_table::LinkTable;
@@ -19,6 +20,8 @@ pub struct Parts {
     pub(crate) lockdown: Vec<UidRange>,
     pub(crate) pairs: Vec<TetherPair>,
     pub(crate) default: Option<u16>,
+    /// How many rules the networks have, kept up to date so that no network is gone over to count them.
+    pub(crate) tallies: Tallies,
 }
 
 impl Parts {
@@ -35,6 +38,7 @@ impl Parts {
             lockdown: Vec::from_slice(self.alloc, self.lockdown.as_slice())?,
             pairs: Vec::from_slice(self.alloc, self.pairs.as_slice())?,
             default: self.default,
+            tallies: self.tallies,
         })
     }
 }
