@@ -1,10 +1,10 @@
 -- A packet's walk while a link leaves a table: it goes over at most once, as the routes go, and the rules that go then give nothing any more.
 use Rattle.std.proofs.Common.{◌≡◌, ℕ, zero, suc, ◌+◌, ◌-◌, ◌≤◌, ◌<◌, ◌==◌, ◌&&◌, Bool, true, false, cond, List, [], ◌∷◌, ◌++◌, length, map, take, filter, Option, Some, None, slice_get, refl, sym, ◌∙◌, ap, subst, arith, inl, inr, append_assoc}
-use Rattle.std.specs.Prelude.{◌⊎◌}
+use Rattle.std.specs.Prelude.{◌⊎◌, bit_and}
 use Rattle.std.specs.Bool.{if◌then◌else◌}
 use Rattle.std.specs.List.{AllByRecursion}
-use Rattle.std.specs.Option.{option_map}
-use Rattle.std.proofs.lemmas.Bool.{cases_Bool, cases_lt, and_parts, false≢true, eqb-true}
+use Rattle.std.specs.Option.{option_map, option_and_then}
+use Rattle.std.proofs.lemmas.Bool.{cases_Bool, cases_lt, and_parts, false≢true, eqb-true, or_right}
 use Rattle.std.proofs.lemmas.List.{map-append, append-nil, take_all, take-append-le, length-map}
 use Rattle.std.proofs.lemmas.Option.{slice_get_within}
 use Rattle.std.proofs.Math.Seq.{take-append-add}
@@ -12,7 +12,7 @@ use Rattle.list_lemmas.proofs.Numbers.{eqb-refl, unlike-sym}
 use Rattle.prefixes.specs.Addr.{family_of}
 use Rattle.prefixes.specs.Best.{best, answer}
 use Rattle.prefixes.specs.Prefix.{covers}
-use Rattle.prefixes.specs.Route.{link_of, suits}
+use Rattle.prefixes.specs.Route.{link_of, suits, answer_of}
 use Rattle.prefixes.specs.declared.addr.Addr.{Addr}
 use Rattle.prefixes.specs.declared.addr.Family.{Family}
 use Rattle.prefixes.specs.declared.addr.Family.TheVariants as family
@@ -37,11 +37,12 @@ use Rattle.kernel_model.specs.Journal.{entry, replay_from}
 use Rattle.kernel_model.specs.Leaving.{LeaveInOrder, taken_out, in_table, leaving, IsLeaving}
 use Rattle.kernel_model.specs.Segment.{done, undone, IsSegment}
 use Rattle.kernel_model.specs.State.{KernelState, NumberedTable, rules_of, routes_of, own_rule, cut_route}
-use Rattle.kernel_model.specs.Switch.{requests_of, additions, deletions, switched, twins, IsSwitch, walk_along}
+use Rattle.kernel_model.specs.Switch.{requests_of, additions, deletions, switched, twins, IsSwitch, GiveAlike, walk_along}
 use Rattle.kernel_model.specs.Walk.{gives, rule_gives, verdict_by, walk}
 use Rattle.kernel_model.specs.declared.request.Entry.{Entry}
 use Rattle.kernel_model.specs.declared.request.EntryKind.TheVariants.{Added, Deleted}
 use Rattle.kernel_model.specs.declared.request.Request.{Request}
+use Rattle.kernel_model.specs.declared.request.Request.TheVariants as req
 use Rattle.kernel_model.proofs.Held.{over-same}
 use Rattle.kernel_model.proofs.LeavingRoutes.{routes_leave}
 use Rattle.kernel_model.proofs.Replays.{replay_from-append}
@@ -54,13 +55,9 @@ module _ {R V : Type 0} (k : Kind R) (gives : R → Option V) (none : V) where
   idle : (stays : R → Bool) (xs : List R) → ((x : R) → has k xs x ≡ true → stays x ≡ false → gives x ≡ None) → law.walk gives none (filter stays xs) ≡ law.walk gives none xs
   idle stays [] h = refl
   idle stays (x ∷ xs) h =
-      let rest : law.walk gives none (filter stays xs) ≡ law.walk gives none xs = idle stays xs (λ y there. h y (either (k.same y x) there)) in
+      let rest : law.walk gives none (filter stays xs) ≡ law.walk gives none xs = idle stays xs (λ y there. h y (or_right (k.same y x) (has k xs y) there)) in
       by (stays x) refl rest
     where
-      either : (b : Bool) {c : Bool} → c ≡ true → cond b true c ≡ true
-      either true there = refl
-      either false there = there
-
       by : (b : Bool) → stays x ≡ b → law.walk gives none (filter stays xs) ≡ law.walk gives none xs → law.walk gives none (cond b (x ∷ filter stays xs) (filter stays xs)) ≡ law.walk gives none (x ∷ xs)
       by true is rest = ap (λ (v : V). elim (gives x) as (λ _. V) [ Some w ↦ w | None ↦ v ]) rest
       by false is rest = rest ∙ sym (ap (λ (o : Option V). elim o as (λ _. V) [ Some w ↦ w | None ↦ law.walk gives none xs ]) (h x (rw (k.same_self x) refl) is))
@@ -102,7 +99,7 @@ module _ (table : ℕ) where
   first-taken : (i : ℕ) (gone : List Route) → take i (of_routes (in_table table gone)) ≡ of_routes (in_table table (take i gone))
   first-taken zero gone = refl
   first-taken (suc i) [] = refl
-  first-taken (suc i) (r ∷ gone) = ap (λ (es : List Entry). _ ∷ es) (first-taken i gone)
+  first-taken (suc i) (r ∷ gone) = ap (λ (es : List Entry). entry Deleted (req.Route table r) ∷ es) (first-taken i gone)
 
 -- where no route suits the binding, there is no answer
 none-suits : (routes : List Route) (dest : Addr) (bound : Option ℕ) → AllByRecursion (λ r. suits (link_of r.out) bound ≡ false) routes → best routes dest bound ≡ None
@@ -168,3 +165,135 @@ module _ (k : KernelState) (table : ℕ) (p : Packet) where
             count : (some : List Route) → length some ≡ length (of_routes (in_table table some))
             count [] = refl
             count (r ∷ some) = ap suc (count some)
+
+-- Some entries along which the walk goes over, and then more that leave it as it is.
+module _ (k : KernelState) (p : Packet) (es more : List Entry) (old new : Verdict) (over : GoesOver (length es) (walk_along k p es) old new)
+    (stays : (i : ℕ) → walk (replay_from (replay_from k es) (take i more)) p ≡ new) where
+  early : (i : ℕ) → i ≤ length es → walk_along k p (es ++ more) i ≡ walk_along k p es i
+  early i l = ap (λ fs. walk (replay_from k fs) p) (take-append-le i es more l)
+
+  late : (i : ℕ) → length es ≤ i → walk_along k p (es ++ more) i ≡ new
+  late i l =
+      let n : ℕ = i - length es in
+      let place : i ≡ length es + n = omega (arith, l) in
+      ap (λ j. walk (replay_from k (take j (es ++ more))) p) place
+      ∙ (ap (λ fs. walk (replay_from k fs) p) (take-append-add es more n) ∙ (ap (λ s. walk s p) (replay_from-append k es (take n more)) ∙ stays n))
+
+  then_stays : GoesOver (length (es ++ more)) (walk_along k p (es ++ more)) old new
+  then_stays = elim (cases_lt (length es) over.switch) [
+    | inl never ↦ record {
+      switch = suc (length es);
+      before = λ i l m. early i (omega (arith, m)) ∙ over.before i (omega (arith, m)) (omega (arith, m, never));
+      behind = λ i l m. late i (omega (arith, m));
+    }
+    | inr within ↦ record {
+      switch = over.switch;
+      before = λ i l m. early i (omega (arith, m, within)) ∙ over.before i (omega (arith, m, within)) m;
+      behind = λ i l m. elim (cases_lt (length es) i) [
+        | inl past ↦ late i (omega (arith, past))
+        | inr here ↦ early i here ∙ over.behind i here m
+      ];
+    }
+  ]
+
+module _ (k : KernelState) (old new : List Rule) (table link : ℕ) (gone : List Route) (h : IsLeaving k old new table link gone) where
+  abbrev routes_gone : List Entry
+  routes_gone = of_routes (in_table table gone)
+
+  abbrev rules_gone : List Entry
+  rules_gone = map (entry Deleted) (deletions old new [])
+
+  abbrev asked : List Request
+  asked = leaving old new table gone
+
+  -- the kernel between the routes and the rules
+  abbrev between : KernelState
+  between = replay_from k routes_gone
+
+  between-switch : IsSwitch between old new []
+  between-switch = record {
+    in_family = λ f. subst (λ rules. law.Stands rule_kind rules (own_rule ∷ old)) (sym (rules-kept k (in_table table gone) f)) (h.switch.in_family f);
+    old_and_new = h.switch.old_and_new;
+    old_behind = h.switch.old_behind;
+    new_behind = h.switch.new_behind;
+    unused = tt;
+  }
+
+  no_additions : done (additions old new) (deletions old new []) ≡ rules_gone
+  no_additions = ap (λ come. map (entry Added) (twins come) ++ rules_gone) h.nothing_comes
+
+  ends : switched between old new [] ≡ replay_from between rules_gone
+  ends = ap (replay_from between) no_additions
+
+  whole : done [] asked ≡ routes_gone ++ rules_gone
+  whole = map-append (entry Deleted) (requests_of (in_table table gone)) (deletions old new [])
+
+  module _ (p : Packet) where
+    -- a rule that goes gives nothing by then
+    rule-idle : (x : Rule) → has rule_kind old x ≡ true → has rule_kind new x ≡ false → rule_gives between.tables p x ≡ None
+    rule-idle x there goes = elim (cases_Bool (matches x p)) [
+      | inl matching ↦ rw matching (by (h.rules x there goes) (binding x.outgoing (h.rules x there goes).1 (outgoing matching)))
+      | inr other ↦ rw other refl
+    ]
+      where
+        outgoing : matches x p ≡ true → selects_link x.outgoing p.outgoing ≡ true
+        outgoing matching =
+            let after_link : Bool = selects_uid x.uids p.uid.number in
+            let after_incoming : Bool = selects_link x.outgoing p.outgoing && after_link in
+            let after_mark : Bool = selects_link x.incoming (Some p.incoming) && after_incoming in
+            (and_parts (selects_link x.outgoing p.outgoing) after_link
+            (and_parts (selects_link x.incoming (Some p.incoming)) after_incoming
+            (and_parts (bit_and p.mark x.mask == x.mark) after_mark matching).1).1).0
+
+        bound_to : (o : Option ℕ) → selects_link (Some link) o ≡ true → o ≡ Some link
+        bound_to None is = absurd (false≢true is)
+        bound_to (Some i) is = ap Some (sym (eqb-true link i is))
+
+        binding : (stated : Option ℕ) → stated ≡ Some link → selects_link stated p.outgoing ≡ true → p.outgoing ≡ Some link
+        binding stated is selected = bound_to p.outgoing (subst (λ o. selects_link o p.outgoing ≡ true) is selected)
+
+        by : (x.action ≡ action.Table table) × (x.outgoing ≡ Some link) → p.outgoing ≡ Some link → gives between.tables x.action p ≡ None
+        by leads bound =
+            ap (λ does. gives between.tables does p) leads.0
+            ∙ ap (λ (o : Option Route). option_map (verdict_by table) (option_and_then (λ (r : Route). answer_of r.out) o))
+            (ap (λ rs. best rs p.dest p.outgoing) (routes-taken table k gone)
+            ∙ none-suits (taken_out (routes_of table k.tables) gone) p.dest p.outgoing (subst (λ o. AllByRecursion (λ r. suits (link_of r.out) o ≡ false) (taken_out (routes_of table k.tables) gone)) (sym bound) h.left))
+
+    module _ (alike_old : GiveAlike between p old) (alike_new : GiveAlike between p new) where
+      told : Rule → Option Verdict
+      told = rule_gives between.tables p
+
+      same-walk : walk (switched between old new []) p ≡ walk between p
+      same-walk =
+          sym (walk-new between old new [] between-switch p alike_old alike_new)
+          ∙ (sym (ap (λ (v : Verdict). elim (rule_gives between.tables p own_rule) as (λ _. Verdict) [ Some w ↦ w | None ↦ v ])
+          (idle-go rule_kind (rule_gives between.tables p) verdict.Unreachable old new h.switch.old_and_new h.nothing_comes alike_new rule-idle))
+          ∙ walk-old between old new [] between-switch p alike_old alike_new)
+
+      rules-over : GoesOver (length rules_gone) (walk_along between p rules_gone) (walk between p) (walk (switched between old new []) p)
+      rules-over =
+          subst (λ es. GoesOver (length es) (walk_along between p es) (walk between p) (walk (switched between old new []) p)) no_additions
+          (done_goes_over between old new [] between-switch p alike_old alike_new)
+
+      rules-stay : (i : ℕ) → walk (replay_from between (take i rules_gone)) p ≡ walk between p
+      rules-stay i = elim (cases_lt (length rules_gone) i) [
+        | inl past ↦ ap (λ es. walk (replay_from between es) p) (take_all i rules_gone (omega (arith, past))) ∙ (ap (λ s. walk s p) (sym ends) ∙ same-walk)
+        | inr within ↦ elim (cases_lt i rules-over.switch) [
+          | inl before ↦ rules-over.before i within before
+          | inr behind ↦ rules-over.behind i within behind ∙ same-walk
+        ]
+      ]
+
+      pub leaving_goes : Goes k [] asked p (done [] asked)
+      leaving_goes =
+          let over = then_stays k p routes_gone rules_gone (walk k p) (walk between p) (routes_go-over k table p gone link h.order) rules-stay in
+          let final : walk (replay_from k (done [] asked)) p ≡ walk between p =
+          ap (λ es. walk (replay_from k es) p) whole ∙ (ap (λ s. walk s p) (replay_from-append k routes_gone rules_gone ∙ sym ends) ∙ same-walk) in
+          subst (λ v. GoesOver (length (done [] asked)) (walk_along k p (done [] asked)) (walk k p) v) (sym final)
+          (subst (λ es. GoesOver (length es) (walk_along k p es) (walk k p) (walk between p)) (sym whole) over)
+
+      never_refused : (i : ℕ) (refused : Request) → slice_get [] i ≡ Some refused → GoesBack k [] asked p (undone [] i refused)
+      never_refused i refused next = absurd cc
+
+      pub leaving_goes_back : (entries : List Entry) → IsSegment [] asked entries → GoesBack k [] asked p entries
+      leaving_goes_back = segment_goes_back k [] asked p leaving_goes never_refused
