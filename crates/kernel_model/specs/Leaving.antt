@@ -11,6 +11,8 @@ use Rattle.rule_law.specs.Rules.{has}
 use Rattle.rule_match.specs.declared.rule.Action.TheVariants as action
 use Rattle.rule_match.specs.declared.rule.Rule.{Rule}
 use Rattle.rule_kinds.specs.Kind.{rule_kind}
+use Rattle.kernel_model.specs.Journal.{replay_from}
+use Rattle.kernel_model.specs.Segment.{done}
 use Rattle.kernel_model.specs.State.{KernelState, routes_of}
 use Rattle.kernel_model.specs.Switch.{requests_of, deletions, IsSwitch}
 use Rattle.kernel_model.specs.declared.request.Request.{Request}
@@ -36,6 +38,10 @@ in_table table routes = map (λ r. (table, r)) routes
 -- the routes go, and then the rules that the new list lacks
 abbrev pub leaving : List Rule → List Rule → ℕ → List Route → List Request
 leaving old new table gone = requests_of (in_table table gone) ++ deletions old new []
+
+-- the kernel when the routes have gone
+abbrev pub without_routes : KernelState → ℕ → List Route → KernelState
+without_routes k table gone = replay_from k (done [] (requests_of (in_table table gone)))
 
 -- What is asked of the kernel, of both lists of rules and of the routes: no rule comes; what is left of the table isn't for packets that are
 -- bound to the link; and a rule that goes is for such packets alone and looks in this table.
