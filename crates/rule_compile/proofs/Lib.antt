@@ -19,3 +19,6 @@ mod Along
 mod Forms
 mod Starting
 mod Levelled
+mod LocalRoutes
+mod LocalRules
+mod LocalLeaves
