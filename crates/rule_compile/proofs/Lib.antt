@@ -9,10 +9,17 @@ mod Shrinking
 mod Defaults
 mod Formed
 mod ChangeKinds
+mod Thinning
 mod Steps
 mod RouteTables
+mod Leaving
+mod Forgotten
+mod LocalRoutes
+mod LocalRules
 mod Asks
 mod Tables
+mod LocalLeaves
+mod LeavingStands
 mod Twins
 mod Asking
 mod Along
