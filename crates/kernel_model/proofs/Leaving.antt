@@ -1,12 +1,11 @@
 -- A packet's walk while a link leaves a table: it goes over at most once, as the routes go, and the rules that go then give nothing any more.
-use Rattle.std.proofs.Common.{◌≡◌, ℕ, zero, suc, ◌+◌, ◌-◌, ◌≤◌, ◌<◌, ◌==◌, ◌&&◌, Bool, true, false, cond, List, [], ◌∷◌, ◌++◌, length, map, take, filter, Option, Some, None, slice_get, refl, sym, ◌∙◌, ap, subst, arith, inl, inr, append_assoc}
-use Rattle.std.specs.Prelude.{◌⊎◌, bit_and}
+use Rattle.std.proofs.Common.{◌≡◌, ℕ, zero, suc, ◌+◌, ◌-◌, ◌≤◌, ◌==◌, ◌&&◌, Bool, true, false, cond, List, [], ◌∷◌, ◌++◌, length, map, take, filter, Option, Some, None, slice_get, refl, sym, ◌∙◌, ap, subst, arith, inl, inr}
+use Rattle.std.specs.Prelude.{bit_and}
 use Rattle.std.specs.Bool.{if◌then◌else◌}
 use Rattle.std.specs.List.{AllByRecursion}
 use Rattle.std.specs.Option.{option_map, option_and_then}
 use Rattle.std.proofs.lemmas.Bool.{cases_Bool, cases_lt, and_parts, false≢true, eqb-true, or_right}
-use Rattle.std.proofs.lemmas.List.{map-append, append-nil, take_all, take-append-le, length-map}
-use Rattle.std.proofs.lemmas.Option.{slice_get_within}
+use Rattle.std.proofs.lemmas.List.{map-append, append-nil, take_all, take-append-le}
 use Rattle.std.proofs.Math.Seq.{take-append-add}
 use Rattle.list_lemmas.proofs.Numbers.{eqb-refl, unlike-sym}
 use Rattle.prefixes.specs.Addr.{family_of}
@@ -21,7 +20,7 @@ use Rattle.prefixes.specs.declared.route.Route.{Route}
 use Rattle.fib_table.specs.Table.{without_route}
 use Rattle.rule_law.specs.Rules as law
 use Rattle.rule_law.specs.Rules.{Kind, has}
-use Rattle.rule_law.specs.Plans.{GoesOver, GoesOverAndBack, AreOldAndNew, beyond, common}
+use Rattle.rule_law.specs.Plans.{GoesOver, AreOldAndNew, beyond, common}
 use Rattle.rule_law.proofs.Beside.{walk-same}
 use Rattle.rule_law.proofs.Orders.{Rises-filter}
 use Rattle.rule_law.proofs.Statements.{stands_walks}
@@ -260,9 +259,6 @@ module _ (k : KernelState) (old new : List Rule) (table link : ℕ) (gone : List
             ∙ none-suits (taken_out (routes_of table k.tables) gone) p.dest p.outgoing (subst (λ o. AllByRecursion (λ r. suits (link_of r.out) o ≡ false) (taken_out (routes_of table k.tables) gone)) (sym bound) h.left))
 
     module _ (alike_old : GiveAlike between p old) (alike_new : GiveAlike between p new) where
-      told : Rule → Option Verdict
-      told = rule_gives between.tables p
-
       same-walk : walk (switched between old new []) p ≡ walk between p
       same-walk =
           sym (walk-new between old new [] between-switch p alike_old alike_new)

@@ -1,7 +1,6 @@
 -- The law of routes: while the routes of a link leave a table, the shortest prefix first, what the table answers goes over at most once, from
 -- the answer of all of its routes to the answer of those that are left.
-use Rattle.std.proofs.Common.{◌≡◌, ℕ, zero, suc, ◌+◌, ◌*◌, ◌/◌, ◌%◌, ◌^◌, ◌-◌, ◌≤◌, ◌<◌, ◌≢◌, ◌++◌, ◌==◌, ◌&&◌, nat_le, Bool, true, false, not, cond, get_or, List, [], ◌∷◌, length, take, filter, Option, Some, None, refl, sym, ◌∙◌, ap, subst, arith, inl, inr}
-use Rattle.std.specs.Prelude.{◌⊎◌}
+use Rattle.std.proofs.Common.{◌≡◌, ℕ, zero, suc, ◌+◌, ◌*◌, ◌/◌, ◌%◌, ◌^◌, ◌-◌, ◌≤◌, ◌<◌, ◌≢◌, ◌++◌, ◌==◌, nat_le, Bool, true, false, not, cond, get_or, List, [], ◌∷◌, length, take, filter, Option, Some, None, refl, sym, ◌∙◌, ap, subst, arith, inl, inr}
 use Rattle.std.specs.Bool.{IsTrue, if◌then◌else◌}
 use Rattle.std.specs.List.{All, AllByRecursion, list_all}
 use Rattle.std.specs.Option.{option_and_then}
@@ -10,7 +9,7 @@ use Rattle.std.proofs.lemmas.Bool.{cases_Bool, cases_lt, and_parts, false≢true
 use Rattle.std.proofs.lemmas.List.Elements.{All-head, All-tail, All-filter, filter-append}
 use Rattle.list_lemmas.specs.Pairwise.{pairwise}
 use Rattle.list_lemmas.proofs.Alls.{all-take}
-use Rattle.prefixes.specs.Addr.{family_of, width_of, value_of, first_bits, host_bits, same_family}
+use Rattle.prefixes.specs.Addr.{family_of, first_bits, host_bits, same_family}
 use Rattle.prefixes.specs.Best.{IsBest, longer_of, best, answer}
 use Rattle.prefixes.specs.Prefix.{covers}
 use Rattle.prefixes.specs.Route.{fits, link_of, same_key, same_route, suits, answer_of}
@@ -20,7 +19,7 @@ use Rattle.prefixes.specs.declared.prefix.Prefix.{Prefix}
 use Rattle.prefixes.specs.declared.route.Answer.{Answer}
 use Rattle.prefixes.specs.declared.route.Route.{Route}
 use Rattle.prefixes.proofs.Bests.{best-IsBest, IsBest-best, best_none}
-use Rattle.prefixes.proofs.Sames.{prefix_is, same_family-true, same_key-from, same_route-true, same_route-refl}
+use Rattle.prefixes.proofs.Sames.{prefix_is, same_family-true, same_key-from, same_route-true}
 use Rattle.fib_table.specs.Table.{without_route}
 use Rattle.rule_law.specs.Plans.{GoesOver}
 use Rattle.kernel_model.specs.Leaving.{may_precede, LeaveInOrder, taken_out}

@@ -1,11 +1,10 @@
 -- The routes of an interface of the local network, as they leave its table: the shortest prefix first, and what is left is for no packet that
 -- is bound to the interface.
-use Rattle.std.proofs.Common.{◌≡◌, ◌∙◌, ◌==◌, ◌&&◌, ◌≤◌, ◌<◌, ◌+◌, ℕ, zero, suc, nat_le, Bool, true, false, not, cond, Option, Some, List, [], ◌∷◌, ◌++◌, refl, sym, ap, subst, inl, inr, map, filter, arith}
-use Rattle.std.specs.Prelude.{flat_map, ◌⊎◌}
+use Rattle.std.proofs.Common.{◌≡◌, ◌∙◌, ◌==◌, ◌≤◌, ℕ, zero, suc, nat_le, Bool, true, false, not, cond, Option, Some, List, [], ◌∷◌, refl, sym, ap, subst, inl, inr, filter, arith}
+use Rattle.std.specs.Prelude.{flat_map}
 use Rattle.std.specs.List.{AllByRecursion, list_all}
-use Rattle.std.proofs.lemmas.Bool.{cases_Bool, false≢true, false_from_ne_true, and_parts, and_from, not-true, eqb-true, le-leb}
+use Rattle.std.proofs.lemmas.Bool.{false≢true, false_from_ne_true, and_parts, and_from, not-true, eqb-true, le-leb}
 use Rattle.list_lemmas.specs.Pairwise.{pairwise}
-use Rattle.list_lemmas.proofs.Numbers.{eqb-refl}
 use Rattle.list_lemmas.proofs.Pairs.{pairwise-append}
 use Rattle.fib_table.specs.Table.{has_key, are_keys_distinct, without_route, routes_in}
 use Rattle.networks.specs.Kinds.{is_local}

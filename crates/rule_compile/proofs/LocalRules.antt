@@ -1,5 +1,5 @@
 -- The rules of an interface that leaves the local network: those that go are for packets bound to it, and lead to the local network's table.
-use Rattle.std.proofs.Common.{◌≡◌, ◌∙◌, ◌==◌, ◌&&◌, ℕ, Bool, true, false, not, Option, Some, None, List, [], ◌∷◌, refl, sym, ap, subst, inl, inr, map, filter, arith}
+use Rattle.std.proofs.Common.{◌≡◌, ◌∙◌, ◌==◌, ◌&&◌, ℕ, Bool, true, false, not, Option, Some, None, List, [], refl, sym, ap, subst, inl, inr, map, arith}
 use Rattle.std.specs.Prelude.{flat_map, ◌⊎◌, if◌then◌else◌}
 use Rattle.std.specs.List.{list_all}
 use Rattle.std.specs.Option.{option_map}
@@ -18,7 +18,7 @@ use Rattle.uid_ranges.specs.declared.ranked.Ranked.{Ranked}
 use Rattle.policy_state.specs.Good.{IsWellFormed}
 use Rattle.policy_state.specs.Rows.{items, items_in, items_at, picks, is_default, default_of, link_item, pair_item}
 use Rattle.policy_state.specs.Step.{without_link}
-use Rattle.policy_state.specs.Table.{rows, rule_of, rules_in, in_order, leads_to, table_of, local_table, table_by_rows, rule_table}
+use Rattle.policy_state.specs.Table.{rows, rule_of, rules_in, leads_to, table_of, local_table, rule_table}
 use Rattle.policy_state.specs.View.{StateView}
 use Rattle.policy_state.specs.declared.row.Item.{Item}
 use Rattle.policy_state.specs.declared.row.NetworkPart.{NetworkPart}
@@ -33,15 +33,15 @@ use Rattle.policy_state.specs.declared.row.Target.TheVariants.{ToLink, ToLocal, 
 use Rattle.policy_state.specs.declared.tether.TetherPair.{TetherPair}
 use Rattle.policy_state.proofs.AlikeRules.{OfSomeRow, of_table, all-has}
 use Rattle.policy_state.proofs.GoodStates.{is-good, is-whole}
-use Rattle.policy_state.proofs.Owners.{Has, IsOwned, IsOutput, owners_of, OfMap, of_map, find-has}
-use Rattle.policy_state.proofs.RowItems.{Comes, comes, OfUsers, of_users, of_links, of_split, of_whole, picked-family, has_map, has_flat, has_at, has-rule}
+use Rattle.policy_state.proofs.Owners.{Has, IsOwned, IsOutput, owners_of, OfMap, of_map}
+use Rattle.policy_state.proofs.RowItems.{Comes, comes, OfUsers, of_users, of_links, picked-family, has_map, has_flat, has_at, has-rule}
 use Rattle.policy_state.proofs.RowTests.{network_class}
 use Rattle.policy_state.proofs.Sorted.{has_in_order}
 use Rattle.policy_state.proofs.Tables.{table-is}
 use Rattle.rule_compile.proofs.ChangeKinds.{default-mapped, thins-shrinks}
 use Rattle.rule_compile.proofs.Changes.{Left, Nothing, Stays, Goes}
 use Rattle.rule_compile.proofs.Defaults.{Found, of_find}
-use Rattle.rule_compile.proofs.RouteTables.{of_filter, has_filtered}
+use Rattle.rule_compile.proofs.RouteTables.{has_filtered}
 use Rattle.rule_compile.proofs.Thinning.{unlinked, after_link, link-thins}
 
 -- Rows with a rule for each interface of the local network: bound to it, and to the local network's table.
