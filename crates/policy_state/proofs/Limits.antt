@@ -20,7 +20,7 @@ use Rattle.policy_state.specs.View.{StateView, Network, link_named}
 use Rattle.policy_state.specs.declared.touch.Touch.TheVariants as touch
 use Rattle.policy_state.proofs.Accepted.{none_holds, changed_by_link-at, Routed, routed}
 use Rattle.policy_state.proofs.CountChanges.{count-touched, count-nothing, count-routes, count-fewer, count-created}
-use Rattle.policy_state.proofs.Goodness.{unknown}
+use Rattle.policy_state.proofs.NetworkParts.{unknown}
 use Rattle.policy_state.proofs.Tables.{count-is}
 
 -- no more rules than before are few enough

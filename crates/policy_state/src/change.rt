@@ -1,275 +1,249 @@
-// The parts of the states that accepted commands lead to.
-ghost use Rattle.std.specs.Prelude.{◌≡◌, None, IfOk, filter, not};
-ghost use Rattle.std.specs.Str.{bytes_eq};
-ghost use Rattle.networks.specs.Lists.{put_net};
+// What an accepted command changes. Room is made first; then the change can't fail.
+ghost use Rattle.std.specs.Prelude.{◌≡◌, ◌==◌, filter, not, OnOk, [], ◌∷◌, None, Some, if◌then◌else◌};
+ghost use Rattle.std.specs.Option.{option_map};
+ghost use Rattle.network_store.specs.Store.{nets_of};
+ghost use Rattle.networks.specs.Lists.{find_link};
+ghost use Rattle.policy_state.specs.Change.{turned, has_link_at, Fits};
+ghost use Rattle.policy_state.specs.Good.{IsWellFormed};
 ghost use Rattle.policy_state.specs.Parts.{view_of};
-ghost use Rattle.policy_state.specs.Step as step;
+ghost use Rattle.policy_state.specs.Room.{HasRoom};
+ghost use Rattle.policy_state.specs.Step.{is_pair, without_net, without_interface};
+ghost use Rattle.uid_ranges.specs.Ranges.{without};
 
-use crate::link::Link;
 use crate::parts::Parts;
-use crate::routes::{key_of, route_of};
-use crate::state::State;
-use commands::{Command, Way};
+use crate::tether::TetherPair;
 use fwmark::Permission;
+use link_table::Link;
 use net_names::Name;
-use networks::{Kind, LinkRoute, LinkRoutes, Links, Network};
-use prefixes::{Prefix, Route};
-use std::alloc::{AllocError, Global};
-use uid_ranges::{RankedList, UidRange};
+use network_store::StoredNetworks;
+use networks::LinkRoute;
+use prefixes::Route;
+use std::alloc::AllocError;
+use uid_ranges::{Uid, UidRange};
 
-fn links_without(alloc: Global, links: &[Link], name: &Name) -> Result<Vec<Link>, AllocError>
-    ensures { IfOk result (λ left. left.items ≡
-        filter (λ l. not (bytes_eq l.name name.now)) links.now) }
-{
-    links
-        .iter()
-        .copied()
-        .filter(|link| link.name != *name)
-        .collect(alloc)
+/// What a command that was accepted changes, with what was found for it.
+#[derive(Clone, Copy, Debug)]
+pub enum Change<'a> {
+    /// The state stays.
+    Nothing,
+    LinkComes {
+        link: Link,
+    },
+    LinkGoes {
+        name: Name,
+    },
+    PhysicalComes {
+        net: u16,
+        permission: Permission,
+    },
+    VirtualComes {
+        net: u16,
+        secure: bool,
+    },
+    NetworkGoes {
+        net: u16,
+    },
+    InterfaceComes {
+        net: u16,
+        link: u16,
+    },
+    InterfaceGoes {
+        net: u16,
+        link: u16,
+    },
+    RouteComes {
+        net: u16,
+        link: u16,
+        route: Route,
+    },
+    /// The interface's route of this one's key goes.
+    RouteGoes {
+        net: u16,
+        link: u16,
+        key: Route,
+    },
+    /// Users come to a VPN, or apps to a physical network.
+    RangesCome {
+        net: u16,
+        rank: u8,
+        ranges: &'a [UidRange],
+    },
+    RangesGo {
+        net: u16,
+        ranges: &'a [UidRange],
+    },
+    DefaultBecomes {
+        default: Option<u16>,
+    },
+    NetworkPermission {
+        net: u16,
+        permission: Permission,
+    },
+    UserPermission {
+        uid: Uid,
+        permission: Permission,
+    },
+    UserForgotten {
+        uid: Uid,
+    },
+    ProtectAllowed {
+        uid: Uid,
+    },
+    ProtectDenied {
+        uid: Uid,
+    },
+    LockdownComes {
+        range: UidRange,
+    },
+    LockdownGoes {
+        range: UidRange,
+    },
+    PairComes {
+        pair: TetherPair,
+    },
+    PairGoes {
+        pair: TetherPair,
+    },
 }
 
-// The network with the link as its last interface, unless it is one of them.
-fn with_link(network: &Network, link: u16) -> Result<Network, AllocError>
-    ensures { IfOk result (λ changed. changed ≡ step.with_link link network.now) }
+// Takes the range out. The others keep their order.
+fn take_range(ranges: &mut Vec<UidRange>, range: &UidRange)
+    ensures { ranges.new.items ≡ without ranges.old.items (range.now ∷ []) }
 {
-    let interfaces = if network.has_link(link) {
-        network.interfaces.clone()?
-    } else {
-        network.interfaces.with(link)?
+    ranges.retain(|other| !other.is_same(range));
+}
+
+// Takes the pair out. The others keep their order.
+fn take_pair(pairs: &mut Vec<TetherPair>, pair: &TetherPair)
+    ensures { pairs.new.items ≡ filter (λ p. not (is_pair pair.now p)) pairs.old.items }
+{
+    pairs.retain(|other| other.input != pair.input || other.out != pair.out);
+}
+
+// Takes the pairs out that go out by this link.
+fn take_pairs_by(pairs: &mut Vec<TetherPair>, link: u16)
+    ensures { pairs.new.items ≡ filter (λ p. not (p.out == link)) pairs.old.items }
+{
+    pairs.retain(|pair| pair.out != link);
+}
+
+// Takes the pairs out that go out by an interface of this network.
+fn take_pairs_of(pairs: &mut Vec<TetherPair>, networks: &StoredNetworks, net: u16)
+    ensures { pairs.new.items ≡
+        filter (λ p. not (has_link_at net (nets_of networks.now) p.out)) pairs.old.items }
+{
+    let Some(network) = networks.get(net) else {
+        return;
     };
-    Ok(Network {
-        id: network.id,
-        kind: network.kind.clone()?,
-        interfaces,
-        routes: network.routes.clone()?,
-    })
+    pairs.retain(|pair| !network.has_link(pair.out));
 }
 
-// The network with other routes.
-fn with_routes(network: &Network, routes: LinkRoutes) -> Result<Network, AllocError>
-    ensures { IfOk result (λ changed. changed ≡ record network.now { routes = routes }) }
+// The default network after this one is gone.
+fn default_without(default: Option<u16>, net: u16) -> Option<u16>
+    ensures { result ≡
+        elim default [ Some id ↦ if id == net then None else Some id | None ↦ None ] }
 {
-    Ok(Network {
-        id: network.id,
-        kind: network.kind.clone()?,
-        interfaces: network.interfaces.clone()?,
-        routes,
-    })
-}
-
-fn with_route(network: &Network, link: u16, route: Route) -> Result<Network, AllocError>
-    ensures { IfOk result (λ changed. changed ≡ step.with_route link route network.now) }
-{
-    let routes = network.routes.with(LinkRoute { link, route })?;
-    with_routes(network, routes)
-}
-
-fn without_route(network: &Network, link: u16, key: &Route) -> Result<Network, AllocError>
-    ensures { IfOk result (λ changed. changed ≡ step.without_route link key.now network.now) }
-{
-    let routes = network.routes.without(link, key)?;
-    with_routes(network, routes)
-}
-
-fn asking_for(permission: Permission, kind: &Kind) -> Result<Kind, AllocError>
-    ensures { IfOk result (λ changed. changed ≡ step.asking_for permission kind.now) }
-{
-    match kind {
-        Kind::Physical { apps, .. } => Ok(Kind::Physical {
-            permission,
-            apps: apps.clone()?,
-        }),
-        Kind::Local | Kind::Virtual { .. } => kind.clone(),
+    match default {
+        Some(id) if id == net => None,
+        Some(id) => Some(id),
+        None => None,
     }
-}
-
-fn with_permission(network: &Network, permission: Permission) -> Result<Network, AllocError>
-    ensures { IfOk result (λ changed. changed ≡ step.with_permission permission network.now) }
-{
-    Ok(Network {
-        id: network.id,
-        kind: asking_for(permission, &network.kind)?,
-        interfaces: network.interfaces.clone()?,
-        routes: network.routes.clone()?,
-    })
 }
 
 impl Parts {
-    // With this network in the place of the one with its id, or as the last.
-    fn put(&mut self, network: Network) -> Result<(), AllocError>
-        ensures { IfOk result (λ _. view_of self.new ≡
-            record (view_of self.old) { networks = put_net network (view_of self.old).networks }) }
+    // Takes the network out, and the tether pairs that go out by its interfaces. It is the default no more.
+    fn drop_network(&mut self, net: u16)
+        requires { IsWellFormed (view_of self.old) }
+        ensures { view_of self.new ≡ without_net net (view_of self.old) }
     {
-        self.networks = self.networks.put(network)?;
-        Ok(())
-    }
-}
-
-impl State {
-    fn link_added(&self, name: Name, index: u16) -> Result<Parts, AllocError>
-        ensures { IfOk result (λ parts. view_of parts ≡
-            step.changed self.now (Command.LinkAdd name index)) }
-    {
-        let mut parts = self.parts.copy()?;
-        parts.links.push(Link { name, index })?;
-        Ok(parts)
+        take_pairs_of(&mut self.pairs, &self.networks, net);
+        self.default = default_without(self.default, net);
+        self.networks.destroy(net);
     }
 
-    fn link_removed(&self, name: &Name) -> Result<Parts, AllocError>
-        ensures { IfOk result (λ parts. view_of parts ≡
-            step.changed self.now (Command.LinkRemove name.now)) }
+    // Takes the interface out of its network, with its routes and the tether pairs that go out by it.
+    fn drop_interface(&mut self, net: u16, link: u16)
+        requires formed { IsWellFormed (view_of self.old) }
+        requires owner { option_map (λ n. n.id) (find_link link (view_of self.old).networks)
+            ≡ Some net }
+        ensures { view_of self.new ≡ without_interface net link (view_of self.old) }
     {
-        let mut parts = self.parts.copy()?;
-        parts.links = links_without(parts.alloc, self.links(), name)?;
-        Ok(parts)
+        self.networks.remove_interface(net, link);
+        take_pairs_by(&mut self.pairs, link);
     }
 
-    // The state with this network in the place of the one with its id, or as the last.
-    fn with_network(&self, network: Network) -> Result<Parts, AllocError>
-        ensures { IfOk result (λ parts. view_of parts ≡
-            record self.now { networks = put_net network self.now.networks }) }
+    /// Takes the memory that the change will need. What is seen of the parts stays, whatever the result.
+    pub(crate) fn make_room(&mut self, change: &Change) -> Result<(), AllocError>
+        ensures view { view_of self.new ≡ view_of self.old }
+        ensures room { OnOk result (HasRoom change.now self.new) }
     {
-        let mut parts = self.parts.copy()?;
-        parts.put(network)?;
-        Ok(parts)
+        match *change {
+            Change::LinkComes { .. } => self.links.reserve(1),
+            Change::PhysicalComes { .. } | Change::VirtualComes { .. } => {
+                self.networks.reserve_network()
+            }
+            Change::InterfaceComes { .. } => self.networks.reserve_interface(),
+            Change::RouteComes { net, .. } => self.networks.reserve_route(net),
+            Change::RangesCome { net, ranges, .. } => {
+                self.networks.reserve_ranges(net, ranges.len())
+            }
+            Change::UserPermission { .. } => self.permissions.reserve(),
+            Change::ProtectAllowed { .. } => self.protectable.reserve(),
+            Change::LockdownComes { .. } => self.lockdown.reserve(1),
+            Change::PairComes { .. } => self.pairs.reserve(1),
+            Change::Nothing
+            | Change::LinkGoes { .. }
+            | Change::NetworkGoes { .. }
+            | Change::InterfaceGoes { .. }
+            | Change::RouteGoes { .. }
+            | Change::RangesGo { .. }
+            | Change::DefaultBecomes { .. }
+            | Change::NetworkPermission { .. }
+            | Change::UserForgotten { .. }
+            | Change::ProtectDenied { .. }
+            | Change::LockdownGoes { .. }
+            | Change::PairGoes { .. } => Ok(()),
+        }
     }
 
-    fn physical_created(&self, net: u16, permission: Permission) -> Result<Parts, AllocError>
-        requires { step.first_that_holds
-            (step.reasons self.now (Command.CreatePhysical net permission)) ≡ None }
-        ensures { IfOk result (λ parts. view_of parts ≡
-            step.changed self.now (Command.CreatePhysical net permission)) }
+    /// Makes the change, in the room that is there.
+    pub(crate) fn commit(&mut self, change: &Change)
+        requires formed { IsWellFormed (view_of self.old) }
+        requires fits { Fits change.now (view_of self.old) }
+        requires room { HasRoom change.now self.old }
+        ensures { view_of self.new ≡ turned change.now (view_of self.old) }
     {
-        let alloc = self.parts.alloc;
-        self.with_network(Network {
-            id: net,
-            kind: Kind::Physical {
-                permission,
-                apps: RankedList::empty(alloc),
-            },
-            interfaces: Links::empty(alloc),
-            routes: LinkRoutes::empty(alloc),
-        })
-    }
-
-    fn interface_added(&self, net: u16, name: &Name) -> Result<Parts, AllocError>
-        requires { step.first_that_holds
-            (step.reasons self.now (Command.InterfaceAdd net name.now)) ≡ None }
-        ensures { IfOk result (λ parts. view_of parts ≡
-            step.changed self.now (Command.InterfaceAdd net name.now)) }
-    {
-        let Some(link) = self.link_named(name) else {
-            return self.parts.copy();
-        };
-        let Some(network) = self.networks().get(net) else {
-            return self.parts.copy();
-        };
-        let network = with_link(network, link)?;
-        self.with_network(network)
-    }
-
-    fn route_added(
-        &self,
-        net: u16,
-        name: &Name,
-        prefix: Prefix,
-        way: Way,
-    ) -> Result<Parts, AllocError>
-        requires { step.first_that_holds
-            (step.reasons self.now (Command.RouteAdd net name.now prefix way)) ≡ None }
-        ensures { IfOk result (λ parts. view_of parts ≡
-            step.changed self.now (Command.RouteAdd net name.now prefix way)) }
-    {
-        let Some(link) = self.link_named(name) else {
-            return self.parts.copy();
-        };
-        let Some(network) = self.networks().get(net) else {
-            return self.parts.copy();
-        };
-        let network = with_route(network, link, route_of(link, prefix, way))?;
-        self.with_network(network)
-    }
-
-    fn route_removed(
-        &self,
-        net: u16,
-        name: &Name,
-        prefix: Prefix,
-        special: bool,
-    ) -> Result<Parts, AllocError>
-        requires { step.first_that_holds
-            (step.reasons self.now (Command.RouteRemove net name.now prefix special)) ≡ None }
-        ensures { IfOk result (λ parts. view_of parts ≡
-            step.changed self.now (Command.RouteRemove net name.now prefix special)) }
-    {
-        let Some(link) = self.link_named(name) else {
-            return self.parts.copy();
-        };
-        let Some(network) = self.networks().get(net) else {
-            return self.parts.copy();
-        };
-        let network = without_route(network, link, &key_of(link, prefix, special))?;
-        self.with_network(network)
-    }
-
-    fn permission_set(&self, net: u16, permission: Permission) -> Result<Parts, AllocError>
-        requires { step.first_that_holds
-            (step.reasons self.now (Command.PermissionNetwork net permission)) ≡ None }
-        ensures { IfOk result (λ parts. view_of parts ≡
-            step.changed self.now (Command.PermissionNetwork net permission)) }
-    {
-        let Some(network) = self.networks().get(net) else {
-            return self.parts.copy();
-        };
-        let network = with_permission(network, permission)?;
-        self.with_network(network)
-    }
-
-    fn lockdown_added(&self, range: UidRange) -> Result<Parts, AllocError>
-        requires { step.first_that_holds
-            (step.reasons self.now (Command.LockdownAdd range)) ≡ None }
-        ensures { IfOk result (λ parts. view_of parts ≡
-            step.changed self.now (Command.LockdownAdd range)) }
-    {
-        let mut parts = self.parts.copy()?;
-        parts.lockdown = self.lockdown().with(&[range])?;
-        Ok(parts)
-    }
-
-    fn lockdown_removed(&self, range: UidRange) -> Result<Parts, AllocError>
-        ensures { IfOk result (λ parts. view_of parts ≡
-            step.changed self.now (Command.LockdownRemove range)) }
-    {
-        let mut parts = self.parts.copy()?;
-        parts.lockdown = self.lockdown().without(&[range])?;
-        Ok(parts)
-    }
-
-    // The parts of the state after a command that is accepted.
-    pub(crate) fn changed_by(&self, command: &Command) -> Result<Parts, AllocError>
-        requires { step.first_that_holds (step.reasons self.now command.now) ≡ None }
-        ensures { IfOk result (λ parts. view_of parts ≡ step.changed self.now command.now) }
-    {
-        match *command {
-            Command::LinkAdd { name, index } => self.link_added(name, index),
-            Command::LinkRemove { name } => self.link_removed(&name),
-            Command::CreatePhysical { net, permission } => self.physical_created(net, permission),
-            Command::InterfaceAdd { net, name } => self.interface_added(net, &name),
-            Command::RouteAdd {
-                net,
-                name,
-                prefix,
-                way,
-            } => self.route_added(net, &name, prefix, way),
-            Command::RouteRemove {
-                net,
-                name,
-                prefix,
-                special,
-            } => self.route_removed(net, &name, prefix, special),
-            Command::PermissionNetwork { net, permission } => self.permission_set(net, permission),
-            Command::LockdownAdd { range } => self.lockdown_added(range),
-            Command::LockdownRemove { range } => self.lockdown_removed(range),
+        match *change {
+            Change::Nothing => {}
+            Change::LinkComes { link } => self.links.add(link),
+            Change::LinkGoes { name } => self.links.remove(&name),
+            Change::PhysicalComes { net, permission } => {
+                self.networks.create_physical(net, permission);
+            }
+            Change::VirtualComes { net, secure } => self.networks.create_virtual(net, secure),
+            Change::NetworkGoes { net } => self.drop_network(net),
+            Change::InterfaceComes { net, link } => self.networks.add_interface(net, link),
+            Change::InterfaceGoes { net, link } => self.drop_interface(net, link),
+            Change::RouteComes { net, link, route } => {
+                self.networks.add_route(net, LinkRoute { link, route });
+            }
+            Change::RouteGoes { net, link, key } => self.networks.remove_route(net, link, &key),
+            Change::RangesCome { net, rank, ranges } => {
+                self.networks.add_ranges(net, ranges, rank);
+            }
+            Change::RangesGo { net, ranges } => self.networks.remove_ranges(net, ranges),
+            Change::DefaultBecomes { default } => self.default = default,
+            Change::NetworkPermission { net, permission } => {
+                self.networks.set_permission(net, permission);
+            }
+            Change::UserPermission { uid, permission } => self.permissions.set(uid, permission),
+            Change::UserForgotten { uid } => self.permissions.forget(uid),
+            Change::ProtectAllowed { uid } => self.protectable.add(uid),
+            Change::ProtectDenied { uid } => self.protectable.remove(uid),
+            Change::LockdownComes { range } => self.lockdown.push_reserved(range),
+            Change::LockdownGoes { range } => take_range(&mut self.lockdown, &range),
+            Change::PairComes { pair } => self.pairs.push_reserved(pair),
+            Change::PairGoes { pair } => take_pair(&mut self.pairs, &pair),
         }
     }
 }
