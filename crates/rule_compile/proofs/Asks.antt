@@ -1,5 +1,5 @@
 -- What a command asks: rules, or one route.
-use Rattle.std.proofs.Common.{◌≡◌, ◌==◌, ◌&&◌, nat_le, ◌∷◌, [], ◌++◌, ◌+◌, ℕ, List, Bool, true, false, not, Some, None, Option, refl, sym, ◌∙◌, ap, ap₂, subst, inl, inr, map, filter, arith}
+use Rattle.std.proofs.Common.{◌≡◌, ◌==◌, ◌&&◌, nat_le, reverse, ◌∷◌, [], ◌++◌, ◌+◌, ℕ, List, Bool, true, false, not, Some, None, Option, refl, sym, ◌∙◌, ap, ap₂, subst, inl, inr, map, filter, arith}
 use Rattle.std.specs.Prelude.{flat_map, ◌≢◌, ◌⊎◌, if◌then◌else◌}
 use Rattle.std.proofs.lemmas.Bool.{cases_Bool, false≢true, and_parts, not-false, not-true, eqb-true, eq-eqb}
 use Rattle.std.proofs.lemmas.List.{append-nil}
@@ -485,3 +485,12 @@ asked-gone s net name prefix special =
     (append-nil (additions (rule_table s) (rule_table (changed s c))) ∙ no-additions (rule_table s) (rule_table (changed s c)) (route_remove-table s net name prefix special))
     (no-deletions (rule_table s) (rule_table (changed s c)) (routes_gone s c) (route_remove-table s net name prefix special))
 
+-- what the other commands ask
+pub asked-by : (s t : StateView) (c : Command) (first last : List Request) → t ≡ changed s c → routes_come s c ≡ [] → first ≡ requests_of (routes_first s c) → last ≡ requests_of (routes_gone s c)
+    → ◌≡◌ {A = PlanView} (record { adds = additions (rule_table s) (rule_table t); deletes = first ++ (reverse (twins (beyond rule_kind (rule_table t) (rule_table s))) ++ last) }) (asked s c)
+asked-by s t c first last after none before behind =
+    let old : List Rule = rule_table s in
+    same_plan (additions old (rule_table t)) (first ++ (reverse (twins (beyond rule_kind (rule_table t) old)) ++ last)) (asked_adds s c) (asked_deletes s c)
+    (ap (λ u. additions old (rule_table u)) after ∙ sym (ap (λ rs. additions old (rule_table (changed s c)) ++ requests_of rs) none ∙ append-nil (additions old (rule_table (changed s c)))))
+    (ap (λ u. first ++ (reverse (twins (beyond rule_kind (rule_table u) old)) ++ last)) after
+    ∙ ap₂ (λ (xs ys : List Request). xs ++ (reverse (twins (beyond rule_kind (rule_table (changed s c)) old)) ++ ys)) before behind)

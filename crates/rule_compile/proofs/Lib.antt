@@ -26,3 +26,5 @@ mod Along
 mod Forms
 mod Starting
 mod Levelled
+mod ByLength
+mod RoutesLeft

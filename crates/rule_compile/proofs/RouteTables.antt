@@ -98,7 +98,7 @@ has_filtered p (y ∷ ys) x (inr t) e = by (p y) (has_filtered p ys x t e)
     by true rest = inr rest
     by false rest = rest
 
-in_by : (link : ℕ) (rs : List LinkRoute) (r : LinkRoute) → Has rs r → r.link ≡ link → Has (routes_by link rs) r.route
+pub in_by : (link : ℕ) (rs : List LinkRoute) (r : LinkRoute) → Has rs r → r.link ≡ link → Has (routes_by link rs) r.route
 in_by link rs r h is = has_map (λ (r : LinkRoute). r.route) (filter (λ (r : LinkRoute). r.link == link) rs) r (has_filtered (λ (r : LinkRoute). r.link == link) rs r h (eq-eqb r.link link is))
 
 -- tables of networks
