@@ -4,6 +4,7 @@
 
 mod difference;
 mod laws;
+mod leaving;
 mod requests;
 mod routes;
 mod rows;
