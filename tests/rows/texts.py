@@ -1,4 +1,4 @@
-"""Rows of what is read and printed: words of the command line, addresses and prefixes, and the columns of bad lines."""
+"""Rows of what is read and printed: words of the command line, addresses and prefixes."""
 from case import Case, dialog, done, listed
 
 USAGE = b"usage: netd_run run [--refuse LIST] [--break LIST]\n       netd_run check\n"
@@ -93,35 +93,9 @@ NO_ADDRESSES = (
 
 NO_PREFIXES = ("10.0.0.0/33", "10.0.0.0/08", "10.0.0.0/", "10.0.0.1/24", "::/129", "::1/127", "10.0.0.0")
 
-# Lines that are none of the grammar, each with the column from which no line goes on.
-BAD_LINES = {
-    "lockdown add 0-4294967295": 14,
-    "lockdown add 9-8": 14,
-    "lockdown add 0-9 0-9": 18,
-    "lockdown add": 13,
-    " lockdown  add  ": 17,
-    "  lockdwn": 3,
-    "show rules 5": 12,
-    "show rules 4\x7f": 13,
-    "show table 4294967296": 12,
-    "packet 1 0x00 1.2.3.4": 10,
-    "link add x 65536": 12,
-    "network create 65536 physical none": 16,
-    "network create 100 physical all": 29,
-    "interface add 65536 wlan0": 15,
-    "route add 100 wlan0 10.0.0.0/08": 21,
-    "route add 100 wlan0 ::/0 via fe80::1/64": 30,
-    "route add 100 wlan0 ::/0 special": 26,
-    "permission network 65536 none": 20,
-}
-
 
 def text_cases():
     yield from words()
-    for line, column in BAD_LINES.items():
-        said = [(line, "bad line at column %d" % column)]
-        yield dialog("bad-line-" + line, said, status=3)
-        yield dialog("check-bad-line-" + line, said, status=3, words=("check",))
     yield dialog("addresses", [*NETWORK, *gateways()])
     yield dialog("prefixes", [*NETWORK, *prefixes()])
     for text in NO_ADDRESSES:

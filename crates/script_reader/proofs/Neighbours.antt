@@ -19,7 +19,7 @@ use Rattle.script_reader.specs.declared.form.TheConstants.{FORMS}
 use Rattle.script_reader.specs.declared.words.Words.{Words}
 use Rattle.script_reader.proofs.Farthest.{IsFarthest, one_more}
 use Rattle.word_text.proofs.Tests.{both_true}
-use Rattle.word_text.specs.Grammar.{Kind, AreOf, Count, Fits, What, addr, count, index, link, literal, mark, named, net, other, permission, prefix, range, ranges, table, uid, valued}
+use Rattle.word_text.specs.Grammar.{Kind, AreOf, Count, Fits, What, addr, count, index, link, literal, mark, named, net, other, permission, prefix, range, ranges, rank, table, uid, valued}
 use Rattle.word_text.specs.Kinds.{kind_of, kinds_in}
 use Rattle.word_text.specs.declared.kind.Kind.{Kind as Coded}
 
@@ -161,6 +161,7 @@ reaches_whole kinds place from after all reaches ends =
 abbrev same_count : Count → Count → Bool
 same_count index index = true
 same_count net net = true
+same_count rank rank = true
 same_count table table = true
 same_count _ _ = false
 
@@ -185,6 +186,7 @@ same_kind _ _ = false
 are_same_count : (one next : Count) → same_count one next ≡ true → one ≡ next
 are_same_count index index e = refl
 are_same_count net net e = refl
+are_same_count rank rank e = refl
 are_same_count table table e = refl
 are_same_count _ _ e = cc
 
