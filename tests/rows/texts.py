@@ -148,7 +148,7 @@ def text_cases():
 
 def words():
     for line, said in FORMS.items():
-        yield Case("form-" + line, b"", said, 8 if said else 0, tuple(line.split()))
+        yield Case("form-" + line, b"", said, 8 if said.startswith(b"start") else 0, tuple(line.split()))
     for line in NO_FORMS:
         yield Case("no-form-" + line, b"", USAGE, 2, tuple(word.replace("_", "") for word in line.split()))
 
