@@ -1,7 +1,7 @@
 """Rows of what is read and printed: words of the command line, addresses and prefixes."""
 from case import Case, dialog, done, listed
 
-USAGE = b"usage: netd_run run [--refuse LIST] [--break LIST]\n       netd_run check\n"
+USAGE = b"usage: netd_run run [--refuse LIST] [--break LIST]\n       netd_run check\n       netd_run soak SEED COUNT\n"
 
 # An interface 'w' of network 100, which asks for no permission.
 NETWORK = done("link add w 2", "network create 100 physical none", "interface add 100 w")
@@ -15,6 +15,10 @@ FORMS = {
     "run --refuse=1,20,300 --break=7": b"start: refused at request 1\n",
     "run --break 7 --refuse 1": b"start: refused at request 1\n",
     "check": b"",
+    "soak 7 0": b"turns 15 done 15 refused 0 rules 22 requests 42\n",
+    "soak 7 1": b"turns 16 done 15 refused 0 rules 22 requests 42\n",
+    "soak 18446744073709551615 0": b"turns 15 done 15 refused 0 rules 22 requests 42\n",
+    "soak 7 2000": b"turns 2015 done 1048 refused 778 rules 140 requests 6328\n",
 }
 
 # Words that have none. '_' stands for an empty word.
@@ -52,7 +56,19 @@ NO_FORMS = (
     "check _",
     "check --help",
     "-V check",
+    "soak",
     "soak 7",
+    "soak 7 _",
+    "soak 7 100001",
+    "soak 07 1",
+    "soak 7 +1",
+    "soak 7 0x1",
+    "soak 18446744073709551616 1",
+    "soak 7 1 2",
+    "soak -7 1",
+    "soak --seed=7 1",
+    "soak 7 --help",
+    "7 1 soak",
 )
 
 # How an address may be written, and how it is printed (RFC 4291 section 2.2, RFC 5952 section 4).
@@ -106,7 +122,7 @@ def text_cases():
 
 def words():
     for line, said in FORMS.items():
-        yield Case("form-" + line, b"", said, 8 if said else 0, tuple(line.split()))
+        yield Case("form-" + line, b"", said, 8 if said.startswith(b"start") else 0, tuple(line.split()))
     for line in NO_FORMS:
         yield Case("no-form-" + line, b"", USAGE, 2, tuple(word.replace("_", "") for word in line.split()))
 
