@@ -1132,6 +1132,8 @@ class Session:
             if packet is None:
                 return
             verdict = self.kernel.trail(packet)[1]
+            if self.checks_policy:
+                assert verdict in (policy(self.state, packet), policy(new, packet)), "neither policy"
             if verdict != last[0]:
                 last[0] = verdict
                 text = verdict_text(self.state, verdict)

@@ -12,6 +12,6 @@ mod verdict;
 pub use network::write_networks;
 pub use rule::write_rule;
 pub use rules::write_rules;
-pub use table::write_table;
+pub use table::{write_route, write_table};
 pub use trail::write_trail;
 pub use verdict::write_verdict;
