@@ -1,7 +1,11 @@
 pub mod Tellings
+pub mod Asking
+pub mod Requests
+pub mod Unwatched
 pub mod Growing
 pub mod Keeping
 pub mod Taking
+pub mod Traces
 pub mod Starting
 pub mod Passing
 pub mod SessionPass

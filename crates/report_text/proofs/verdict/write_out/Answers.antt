@@ -10,3 +10,9 @@ returns-clause-room c =
     let written = both c.write_gateway.result (both (Ok tt) c.in_ok-append_bytes.ensures c.in_ok-write_link.ensures.text) c.write_gateway.ensures in
     room_for _ _ c.write_gateway.result (verdict_text c.args.state.now (verdict.Out c.args.link c.args.gateway)) written
     (verdict-length c.args.state.now c.args.link c.args.gateway c.write_link.ensures.short)
+
+pub returns-clause-short : goal.returns-clause-short
+returns-clause-short c = verdict-length c.args.state.now c.args.link c.args.gateway c.write_link.ensures.short
+
+pub returns-in_err-append_bytes-clause-short : goal.returns-in_err-append_bytes-clause-short
+returns-in_err-append_bytes-clause-short c = ?
