@@ -30,3 +30,4 @@ pub mod Tallied
 pub mod TallyChanges
 pub mod CountsAfter
 pub mod CountsLess
+pub mod AcceptLemmas

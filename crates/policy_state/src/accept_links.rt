@@ -3,6 +3,7 @@ ghost use Rattle.std.specs.Prelude.{◌≡◌, ◌==◌, IfOk, codes};
 ghost use Rattle.std.specs.List.{list_any};
 ghost use Rattle.std.specs.Result.{result_err};
 ghost use Rattle.std.specs.Str.{bytes_eq};
+ghost use Rattle.commands.specs.declared.command.Command.TheVariants as command;
 ghost use Rattle.policy_state.specs.Accept.{Makes};
 ghost use Rattle.policy_state.specs.Parts.{view_of};
 ghost use Rattle.policy_state.specs.Step as step;
@@ -27,9 +28,9 @@ pub(crate) fn is_lo(name: &Name) -> bool
 impl Parts {
     pub(crate) fn link_comes(&self, name: &Name, index: u16) -> Result<Change<'static>, Code>
         ensures code { result_err result ≡ step.first_that_holds
-            (step.reasons (view_of self.now) (Command.LinkAdd name.now index)) }
+            (step.reasons (view_of self.now) (command.LinkAdd name.now index)) }
         ensures makes { IfOk result
-            (Makes (view_of self.now) (Command.LinkAdd name.now index)) }
+            (Makes (view_of self.now) (command.LinkAdd name.now index)) }
     {
         if index < LEAST_INDEX {
             return Err(Code::Invalid);
@@ -60,8 +61,8 @@ impl Parts {
 
     pub(crate) fn link_goes(&self, name: &Name) -> Result<Change<'static>, Code>
         ensures code { result_err result ≡ step.first_that_holds
-            (step.reasons (view_of self.now) (Command.LinkRemove name.now)) }
-        ensures makes { IfOk result (Makes (view_of self.now) (Command.LinkRemove name.now)) }
+            (step.reasons (view_of self.now) (command.LinkRemove name.now)) }
+        ensures makes { IfOk result (Makes (view_of self.now) (command.LinkRemove name.now)) }
     {
         let Some(link) = self.links.index_of(name) else {
             return Err(Code::NoDevice);

@@ -2,6 +2,7 @@
 ghost use Rattle.std.specs.Prelude.{◌≡◌, IfOk};
 ghost use Rattle.std.specs.Result.{result_err};
 ghost use Rattle.fwmark.specs.declared.permission.Permission.{Permission};
+ghost use Rattle.commands.specs.declared.command.Command.TheVariants as command;
 ghost use Rattle.policy_state.specs.Accept.{Makes};
 ghost use Rattle.policy_state.specs.Good.{IsGood};
 ghost use Rattle.policy_state.specs.Parts.{view_of};
@@ -25,7 +26,7 @@ impl Parts {
     // Why no network of this id can be created.
     fn id_refusal(&self, net: u16) -> Option<Code>
         ensures { (permission : Permission) → result ≡ step.first_that_holds
-            (step.reasons (view_of self.now) (Command.CreatePhysical net permission)) }
+            (step.reasons (view_of self.now) (command.CreatePhysical net permission)) }
     {
         if net < LEAST_ID {
             return Some(Code::Invalid);
@@ -45,9 +46,9 @@ impl Parts {
         permission: Permission,
     ) -> Result<Change<'static>, Code>
         ensures code { result_err result ≡ step.first_that_holds
-            (step.reasons (view_of self.now) (Command.CreatePhysical net permission)) }
+            (step.reasons (view_of self.now) (command.CreatePhysical net permission)) }
         ensures makes { IfOk result
-            (Makes (view_of self.now) (Command.CreatePhysical net permission)) }
+            (Makes (view_of self.now) (command.CreatePhysical net permission)) }
     {
         match self.id_refusal(net) {
             Some(code) => Err(code),
@@ -57,9 +58,9 @@ impl Parts {
 
     pub(crate) fn virtual_comes(&self, net: u16, secure: bool) -> Result<Change<'static>, Code>
         ensures code { result_err result ≡ step.first_that_holds
-            (step.reasons (view_of self.now) (Command.CreateVirtual net secure)) }
+            (step.reasons (view_of self.now) (command.CreateVirtual net secure)) }
         ensures makes { IfOk result
-            (Makes (view_of self.now) (Command.CreateVirtual net secure)) }
+            (Makes (view_of self.now) (command.CreateVirtual net secure)) }
     {
         match self.id_refusal(net) {
             Some(code) => Err(code),
@@ -69,8 +70,8 @@ impl Parts {
 
     pub(crate) fn network_goes(&self, net: u16) -> Result<Change<'static>, Code>
         ensures code { result_err result ≡ step.first_that_holds
-            (step.reasons (view_of self.now) (Command.Destroy net)) }
-        ensures makes { IfOk result (Makes (view_of self.now) (Command.Destroy net)) }
+            (step.reasons (view_of self.now) (command.Destroy net)) }
+        ensures makes { IfOk result (Makes (view_of self.now) (command.Destroy net)) }
     {
         if net == LOCAL_ID {
             return Err(Code::Invalid);
@@ -87,9 +88,9 @@ impl Parts {
         name: &Name,
     ) -> Result<Change<'static>, Code>
         ensures code { result_err result ≡ step.first_that_holds
-            (step.reasons (view_of self.now) (Command.InterfaceAdd net name.now)) }
+            (step.reasons (view_of self.now) (command.InterfaceAdd net name.now)) }
         ensures makes { IfOk result
-            (Makes (view_of self.now) (Command.InterfaceAdd net name.now)) }
+            (Makes (view_of self.now) (command.InterfaceAdd net name.now)) }
     {
         let Some(network) = self.networks.get(net) else {
             return Err(Code::NoNetwork);
@@ -119,9 +120,9 @@ impl Parts {
     ) -> Result<Change<'static>, Code>
         requires { IsGood (view_of self.now) }
         ensures code { result_err result ≡ step.first_that_holds
-            (step.reasons (view_of self.now) (Command.InterfaceRemove net name.now)) }
+            (step.reasons (view_of self.now) (command.InterfaceRemove net name.now)) }
         ensures makes { IfOk result
-            (Makes (view_of self.now) (Command.InterfaceRemove net name.now)) }
+            (Makes (view_of self.now) (command.InterfaceRemove net name.now)) }
     {
         let Some(network) = self.networks.get(net) else {
             return Err(Code::NoNetwork);
@@ -138,7 +139,7 @@ impl Parts {
     // Why there is no physical network of this id.
     fn physical_refusal(&self, net: u16) -> Option<Code>
         ensures { result ≡ step.first_that_holds
-            (step.reasons (view_of self.now) (Command.DefaultSet net)) }
+            (step.reasons (view_of self.now) (command.DefaultSet net)) }
     {
         let Some(network) = self.networks.get(net) else {
             return Some(Code::NoNetwork);
@@ -151,8 +152,8 @@ impl Parts {
 
     pub(crate) fn default_set(&self, net: u16) -> Result<Change<'static>, Code>
         ensures code { result_err result ≡ step.first_that_holds
-            (step.reasons (view_of self.now) (Command.DefaultSet net)) }
-        ensures makes { IfOk result (Makes (view_of self.now) (Command.DefaultSet net)) }
+            (step.reasons (view_of self.now) (command.DefaultSet net)) }
+        ensures makes { IfOk result (Makes (view_of self.now) (command.DefaultSet net)) }
     {
         match self.physical_refusal(net) {
             Some(code) => Err(code),
@@ -166,9 +167,9 @@ impl Parts {
         permission: Permission,
     ) -> Result<Change<'static>, Code>
         ensures code { result_err result ≡ step.first_that_holds
-            (step.reasons (view_of self.now) (Command.PermissionNetwork net permission)) }
+            (step.reasons (view_of self.now) (command.PermissionNetwork net permission)) }
         ensures makes { IfOk result
-            (Makes (view_of self.now) (Command.PermissionNetwork net permission)) }
+            (Makes (view_of self.now) (command.PermissionNetwork net permission)) }
     {
         match self.physical_refusal(net) {
             Some(code) => Err(code),

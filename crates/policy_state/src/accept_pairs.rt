@@ -1,6 +1,7 @@
 // Whether a tether pair may come or go.
 ghost use Rattle.std.specs.Prelude.{◌≡◌, IfOk};
 ghost use Rattle.std.specs.Result.{result_err};
+ghost use Rattle.commands.specs.declared.command.Command.TheVariants as command;
 ghost use Rattle.policy_state.specs.Accept.{Makes};
 ghost use Rattle.policy_state.specs.Parts.{view_of};
 ghost use Rattle.policy_state.specs.Step as step;
@@ -26,9 +27,9 @@ impl Parts {
 
     pub(crate) fn pair_comes(&self, input: &Name, out: &Name) -> Result<Change<'static>, Code>
         ensures code { result_err result ≡ step.first_that_holds
-            (step.reasons (view_of self.now) (Command.TetherAdd input.now out.now)) }
+            (step.reasons (view_of self.now) (command.TetherAdd input.now out.now)) }
         ensures makes { IfOk result
-            (Makes (view_of self.now) (Command.TetherAdd input.now out.now)) }
+            (Makes (view_of self.now) (command.TetherAdd input.now out.now)) }
     {
         let Some(came) = self.links.index_of(input) else {
             return Err(Code::NoDevice);
@@ -57,9 +58,9 @@ impl Parts {
 
     pub(crate) fn pair_goes(&self, input: &Name, out: &Name) -> Result<Change<'static>, Code>
         ensures code { result_err result ≡ step.first_that_holds
-            (step.reasons (view_of self.now) (Command.TetherRemove input.now out.now)) }
+            (step.reasons (view_of self.now) (command.TetherRemove input.now out.now)) }
         ensures makes { IfOk result
-            (Makes (view_of self.now) (Command.TetherRemove input.now out.now)) }
+            (Makes (view_of self.now) (command.TetherRemove input.now out.now)) }
     {
         let Some(came) = self.links.index_of(input) else {
             return Err(Code::NoEntry);

@@ -4,6 +4,7 @@ ghost use Rattle.std.specs.List.{list_all};
 ghost use Rattle.std.specs.Result.{result_err};
 ghost use Rattle.network_store.specs.Stored.{kind_of};
 ghost use Rattle.networks.specs.Kinds.{ranges_of};
+ghost use Rattle.commands.specs.declared.command.Command.TheVariants as command;
 ghost use Rattle.policy_state.specs.Accept.{Makes, takes};
 ghost use Rattle.policy_state.specs.Change.{Fits, turned};
 ghost use Rattle.policy_state.specs.Good.{IsGood};
@@ -118,8 +119,8 @@ impl Parts {
 
     pub(crate) fn lockdown_comes(&self, range: UidRange) -> Result<Change<'static>, Code>
         ensures code { result_err result ≡ step.first_that_holds
-            (step.reasons (view_of self.now) (Command.LockdownAdd range)) }
-        ensures makes { IfOk result (Makes (view_of self.now) (Command.LockdownAdd range)) }
+            (step.reasons (view_of self.now) (command.LockdownAdd range)) }
+        ensures makes { IfOk result (Makes (view_of self.now) (command.LockdownAdd range)) }
     {
         if self.is_met(&range) {
             return Err(Code::Exists);
@@ -132,8 +133,8 @@ impl Parts {
 
     pub(crate) fn lockdown_goes(&self, range: UidRange) -> Result<Change<'static>, Code>
         ensures code { result_err result ≡ step.first_that_holds
-            (step.reasons (view_of self.now) (Command.LockdownRemove range)) }
-        ensures makes { IfOk result (Makes (view_of self.now) (Command.LockdownRemove range)) }
+            (step.reasons (view_of self.now) (command.LockdownRemove range)) }
+        ensures makes { IfOk result (Makes (view_of self.now) (command.LockdownRemove range)) }
     {
         if !self.is_locked(&range) {
             return Err(Code::NoEntry);

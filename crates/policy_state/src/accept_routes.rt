@@ -6,6 +6,7 @@ ghost use Rattle.fib_table.specs.Table as table;
 ghost use Rattle.network_store.specs.Stored.{net_of};
 ghost use Rattle.networks.specs.Lists.{find_id};
 ghost use Rattle.networks.specs.Network.{is_keyed_by, routes_by};
+ghost use Rattle.commands.specs.declared.command.Command.TheVariants as command;
 ghost use Rattle.policy_state.specs.Accept.{Makes};
 ghost use Rattle.policy_state.specs.Good.{IsGood, IsNetwork};
 ghost use Rattle.policy_state.specs.Parts.{view_of};
@@ -90,9 +91,9 @@ impl Parts {
     ) -> Result<Change<'static>, Code>
         requires { IsGood (view_of self.now) }
         ensures code { result_err result ≡ step.first_that_holds
-            (step.reasons (view_of self.now) (Command.RouteAdd net name.now prefix way)) }
+            (step.reasons (view_of self.now) (command.RouteAdd net name.now prefix way)) }
         ensures makes { IfOk result
-            (Makes (view_of self.now) (Command.RouteAdd net name.now prefix way)) }
+            (Makes (view_of self.now) (command.RouteAdd net name.now prefix way)) }
     {
         let (network, link) = match self.route_place(net, name) {
             Ok(place) => place,
@@ -119,9 +120,9 @@ impl Parts {
         special: bool,
     ) -> Result<Change<'static>, Code>
         ensures code { result_err result ≡ step.first_that_holds
-            (step.reasons (view_of self.now) (Command.RouteRemove net name.now prefix special)) }
+            (step.reasons (view_of self.now) (command.RouteRemove net name.now prefix special)) }
         ensures makes { IfOk result
-            (Makes (view_of self.now) (Command.RouteRemove net name.now prefix special)) }
+            (Makes (view_of self.now) (command.RouteRemove net name.now prefix special)) }
     {
         let (network, link) = match self.route_place(net, name) {
             Ok(place) => place,

@@ -2,6 +2,7 @@
 ghost use Rattle.std.specs.Prelude.{◌≡◌, IfOk};
 ghost use Rattle.std.specs.Result.{result_err};
 ghost use Rattle.fwmark.specs.declared.permission.Permission.{Permission};
+ghost use Rattle.commands.specs.declared.command.Command.TheVariants as command;
 ghost use Rattle.policy_state.specs.Accept.{Makes};
 ghost use Rattle.policy_state.specs.Parts.{view_of};
 ghost use Rattle.policy_state.specs.Step as step;
@@ -29,9 +30,9 @@ impl Parts {
         permission: Permission,
     ) -> Result<Change<'static>, Code>
         ensures code { result_err result ≡ step.first_that_holds
-            (step.reasons (view_of self.now) (Command.PermissionUser uid permission)) }
+            (step.reasons (view_of self.now) (command.PermissionUser uid permission)) }
         ensures makes { IfOk result
-            (Makes (view_of self.now) (Command.PermissionUser uid permission)) }
+            (Makes (view_of self.now) (command.PermissionUser uid permission)) }
     {
         if !self.has_permission(uid) && self.permissions.len() >= MOST_USERS {
             return Err(Code::NoSpace);
@@ -41,8 +42,8 @@ impl Parts {
 
     pub(crate) fn protect_allowed(&self, uid: Uid) -> Result<Change<'static>, Code>
         ensures code { result_err result ≡ step.first_that_holds
-            (step.reasons (view_of self.now) (Command.ProtectAllow uid)) }
-        ensures makes { IfOk result (Makes (view_of self.now) (Command.ProtectAllow uid)) }
+            (step.reasons (view_of self.now) (command.ProtectAllow uid)) }
+        ensures makes { IfOk result (Makes (view_of self.now) (command.ProtectAllow uid)) }
     {
         if !self.protectable.has(uid) && self.protectable.len() >= MOST_USERS {
             return Err(Code::NoSpace);
