@@ -2,7 +2,7 @@
 use Rattle.std.proofs.Common.{◌≡◌, ℕ, ◌+◌, ◌<◌, ◌≤◌, ◌==◌, ◌&&◌, ◌||◌, Bool, true, false, List, [], ◌∷◌, find, nat_le, nat_lt, Option, Some, None, is_some, refl, sym, ap, subst, ◌∙◌, arith, inl, inr}
 use Rattle.std.specs.List.{list_any, list_all, AllByRecursion}
 use Rattle.std.specs.Option.{option_map}
-use Rattle.std.proofs.lemmas.Bool.{cases_Bool, and_parts, or_parts, or_from, eqb-true, ltb-true, ltb-false}
+use Rattle.std.proofs.lemmas.Bool.{cases_Bool, and_parts, or_parts, or_from, ltb-true, ltb-false, false≢true}
 use Rattle.std.proofs.lemmas.Bool.Decides.{nat_tests}
 use Rattle.std.proofs.lemmas.Option.{none-some, same_Some}
 use Rattle.list_lemmas.proofs.Alls.{all-weaker}
@@ -33,6 +33,10 @@ AreLow ns = AllByRecursion (λ n. are_low (ranges_of n.kind) ≡ true) ns
 pub low-networks : (ns : List Network) → AreNetworks ns → AreLow ns
 low-networks ns good = all-weaker IsNetwork (λ n. are_low (ranges_of n.kind) ≡ true) (λ n one. (and_parts (are_low (ranges_of n.kind)) (pairwise are_apart (ranges_of n.kind)) one.ranked).0) ns good.each
 
+or-second : (a b : Bool) → b ≡ true → (a || b) ≡ true
+or-second true b t = refl
+or-second false b t = t
+
 module _ (uid : ℕ) where
   -- past the last rank no range holds anyone
   none-past : (rank : ℕ) (rs : List Ranked) → 100 ≤ rank → are_low rs ≡ true → holds_rank rank uid rs ≡ false
@@ -50,10 +54,11 @@ module _ (uid : ℕ) where
   none-held (r ∷ rs) low none =
       let parts = and_parts (nat_le r.rank 99) (are_low rs) low in
       let here : holds_at r.rank uid r ≡ false = (or_parts (holds_at r.rank uid r) (holds_rank r.rank uid rs) (none r.rank (grind (arith, nat_tests, parts.0)))).0 in
-      or_from (holds r.users uid) (holds_user rs uid) (rw (eqb-refl r.rank) here) (none-held rs parts.1 (λ rank below. (or_parts (holds_at rank uid r) (holds_rank rank uid rs) (none rank below)).1))
+      or_from (holds r.users uid) (holds_user rs uid) (rw (eqb-refl r.rank) at here) (none-held rs parts.1 (λ rank below. (or_parts (holds_at rank uid r) (holds_rank rank uid rs) (none rank below)).1))
 
   -- and one that is held at a rank is held
   some-held : (rank : ℕ) (rs : List Ranked) → holds_rank rank uid rs ≡ true → holds_user rs uid ≡ true
+  some-held rank [] any = absurd (false≢true any)
   some-held rank (r ∷ rs) any = elim (cases_Bool (holds r.users uid)) as (λ _. holds_user (r ∷ rs) uid ≡ true) [
     | inl h ↦ rw h refl
     | inr h ↦ rw h (some-held rank rs (rest (r.rank == rank) h any))
@@ -74,19 +79,17 @@ module _ (uid : ℕ) where
 
     -- held at some rank, or held
     pub any-held : (rank : ℕ) (ns : List Network) → list_any (λ n. test n && holds_rank rank uid (ranges_of n.kind)) ns ≡ true → list_any (λ n. test n && holds_user (ranges_of n.kind) uid) ns ≡ true
-    any-held rank (n ∷ ns) any = by (test n) any
+    any-held rank [] any = absurd (false≢true any)
+    any-held rank (n ∷ ns) any = by (test n) any (any-held rank ns)
       where
         by : (b : Bool) → ((b && holds_rank rank uid (ranges_of n.kind)) || list_any (λ m. test m && holds_rank rank uid (ranges_of m.kind)) ns) ≡ true
+            → (list_any (λ m. test m && holds_rank rank uid (ranges_of m.kind)) ns ≡ true → list_any (λ m. test m && holds_user (ranges_of m.kind) uid) ns ≡ true)
             → ((b && holds_user (ranges_of n.kind) uid) || list_any (λ m. test m && holds_user (ranges_of m.kind) uid) ns) ≡ true
-        by true any = elim (cases_Bool (holds_rank rank uid (ranges_of n.kind))) as (λ _. (holds_user (ranges_of n.kind) uid || list_any (λ m. test m && holds_user (ranges_of m.kind) uid) ns) ≡ true) [
+        by true any rest = elim (cases_Bool (holds_rank rank uid (ranges_of n.kind))) as (λ _. (holds_user (ranges_of n.kind) uid || list_any (λ m. test m && holds_user (ranges_of m.kind) uid) ns) ≡ true) [
           | inl h ↦ rw (some-held rank (ranges_of n.kind) h) refl
-          | inr h ↦ or-second (holds_user (ranges_of n.kind) uid) _ (any-held rank ns (rw h at any))
+          | inr h ↦ or-second (holds_user (ranges_of n.kind) uid) _ (rest (rw h at any))
         ]
-        by false any = any-held rank ns any
-
-        or-second : (a b : Bool) → b ≡ true → (a || b) ≡ true
-        or-second true b t = refl
-        or-second false b t = t
+        by false any rest = rest any
 
     pub none-any : (ns : List Network) → AreLow ns → ((rank : ℕ) → rank < 100 → list_any (λ n. test n && holds_rank rank uid (ranges_of n.kind)) ns ≡ false)
         → list_any (λ n. test n && holds_user (ranges_of n.kind) uid) ns ≡ false

@@ -4,7 +4,8 @@ use Rattle.std.specs.Option.{option_or}
 use Rattle.std.proofs.lemmas.Bool.{cases_Bool, eqb-true}
 use Rattle.std.proofs.lemmas.Option.{none-some}
 use Rattle.policy_state.specs.Rows.{numbers_from}
-use Rattle.mark_server.specs.Users.{first_found, at_lowest}
+use Rattle.mark_server.specs.Users.{first_found, at_lowest, id_of}
+use Rattle.networks.specs.declared.network.Network.{Network}
 
 module _ {N : Type 0} (at : ℕ → Option N) where
   pub found-first : (n low rank : ℕ) (x : N) → low ≤ rank → rank < low + n → ((lower : ℕ) → lower < rank → at lower ≡ None) → at rank ≡ Some x
@@ -33,21 +34,22 @@ module _ {N : Type 0} (at : ℕ → Option N) where
 
   pub some-rank : (ranks : List ℕ) (x : N) → first_found at ranks ≡ Some x → (rank : ℕ) × (at rank ≡ Some x)
   some-rank [] x is = absurd (none-some x is)
-  some-rank (rank ∷ ranks) x is = by (at rank) refl is
+  some-rank (rank ∷ ranks) x is = by (at rank) refl is (some-rank ranks x)
     where
-      by : (o : Option N) → at rank ≡ o → option_or o (first_found at ranks) ≡ Some x → (r : ℕ) × (at r ≡ Some x)
-      by (Some y) here is = (rank, here ∙ is)
-      by None here is = some-rank ranks x is
+      by : (o : Option N) → at rank ≡ o → option_or o (first_found at ranks) ≡ Some x → (first_found at ranks ≡ Some x → (r : ℕ) × (at r ≡ Some x)) → (r : ℕ) × (at r ≡ Some x)
+      by (Some y) here is rest = (rank, here ∙ is)
+      by None here is rest = rest is
 
   pub no-rank : (n low : ℕ) → first_found at (numbers_from low n) ≡ None → (rank : ℕ) → low ≤ rank → rank < low + n → at rank ≡ None
   no-rank zero low none rank from below = absurd (omega (arith, from, below))
-  no-rank (suc n) low none rank from below = by (at low) refl none
+  no-rank (suc n) low none rank from below = by (at low) refl none (λ is later. no-rank n (suc low) is rank later (omega (arith, below)))
     where
-      by : (o : Option N) → at low ≡ o → option_or o (first_found at (numbers_from (suc low) n)) ≡ None → at rank ≡ None
-      by (Some y) here is = absurd (none-some y (sym is))
-      by None here is = elim (cases_Bool (low == rank)) as (λ _. at rank ≡ None) [
+      by : (o : Option N) → at low ≡ o → option_or o (first_found at (numbers_from (suc low) n)) ≡ None
+          → (first_found at (numbers_from (suc low) n) ≡ None → suc low ≤ rank → at rank ≡ None) → at rank ≡ None
+      by (Some y) here is rest = absurd (none-some y (sym is))
+      by None here is rest = elim (cases_Bool (low == rank)) as (λ _. at rank ≡ None) [
         | inl e ↦ subst (λ r. at r ≡ None) (eqb-true low rank e) here
-        | inr e ↦ no-rank n (suc low) is rank (grind (arith, e, from)) (omega (arith, below))
+        | inr e ↦ rest is (grind (arith, e, from))
       ]
 
   pub some-lowest : (x : N) → at_lowest at ≡ Some x → (rank : ℕ) × (at rank ≡ Some x)
@@ -57,3 +59,28 @@ module _ {N : Type 0} (at : ℕ → Option N) where
   pub no-lowest : at_lowest at ≡ None → (rank : ℕ) → rank < 100 → at rank ≡ None
   unfolding at_lowest
   no-lowest none rank below = no-rank 100 0 none rank (omega arith) (omega (arith, below))
+
+-- the same by the ids of networks
+
+id-none : (o : Option Network) → id_of o ≡ None → o ≡ None
+id-none None is = refl
+id-none (Some n) is = absurd (none-some n.id (sym is))
+
+pub id-lowest : (at : ℕ → Option Network) (rank net : ℕ) → rank < 100 → ((lower : ℕ) → lower < rank → id_of (at lower) ≡ None) → id_of (at rank) ≡ Some net
+    → id_of (at_lowest at) ≡ Some net
+id-lowest at rank net below lowest is = by (at rank) refl is
+  where
+    by : (o : Option Network) → at rank ≡ o → id_of o ≡ Some net → id_of (at_lowest at) ≡ Some net
+    by None here is = absurd (none-some net is)
+    by (Some n) here is = ap id_of (found-lowest at rank n below (λ lower low. id-none (at lower) (lowest lower low)) here) ∙ is
+
+pub no-id-lowest : (at : ℕ → Option Network) → ((rank : ℕ) → rank < 100 → id_of (at rank) ≡ None) → id_of (at_lowest at) ≡ None
+no-id-lowest at none = ap id_of (none-lowest at (λ rank below. id-none (at rank) (none rank below)))
+
+-- one rank more at which nothing is found
+pub none-next : (at : ℕ → Option Network) (rank : ℕ) → ((lower : ℕ) → lower < rank → id_of (at lower) ≡ None) → id_of (at rank) ≡ None
+    → (lower : ℕ) → lower < rank + 1 → id_of (at lower) ≡ None
+none-next at rank lowest here lower below = elim (cases_Bool (lower == rank)) as (λ _. id_of (at lower) ≡ None) [
+  | inl e ↦ subst (λ r. id_of (at r) ≡ None) (sym (eqb-true lower rank e)) here
+  | inr e ↦ lowest lower (grind (arith, e, below))
+]

@@ -1,6 +1,6 @@
 -- The sockets by name in the order of their creation, and what each call makes of them, after netd's FwmarkServer. A call that
 -- is refused leaves them as they are; no call changes a socket but its own.
-use Rattle.std.specs.Prelude.{ℕ, ◌==◌, ◌++◌, List, [], ◌∷◌, Option, Some, None, Result, Ok, Err, is_some, length, nat_le, if◌then◌else◌}
+use Rattle.std.specs.Prelude.{ℕ, ◌==◌, ◌++◌, Bool, List, [], ◌∷◌, Option, Some, None, Result, Ok, Err, is_some, length, nat_le, if◌then◌else◌}
 use Rattle.std.specs.Map.{lookup, set_value, remove_entry}
 use Rattle.std.specs.Option.{option_and_then}
 use Rattle.std.specs.Str.{bytes_eq}
@@ -42,7 +42,7 @@ connecting s socket = Ok (with_mark (connected s socket.uid) socket)
 abbrev pub selecting : StateView → ℕ → SocketCall
 selecting s net socket =
     if net == 0 then Ok (with_mark cleared socket)
-    else elim (access s socket.uid net) [ None ↦ Ok (with_mark (selected s socket.uid net) socket) | Some refusal ↦ Err refusal ]
+    else elim (access s socket.uid net) [ Ok allowed ↦ Ok (with_mark (selected s socket.uid net) socket) | Err refusal ↦ Err refusal ]
 
 abbrev pub protecting : StateView → SocketCall
 protecting s socket = if may_protect s socket.uid then Ok (with_mark (protected s socket.uid) socket) else Err code.NotPermitted
@@ -78,7 +78,11 @@ put_back name (Err refusal) sockets = sockets
 abbrev pub after : List ℕ → SocketCall → Sockets → Sockets
 after name call sockets = put_back name (called name call sockets) sockets
 
--- the sockets without the one of this name
+-- the socket of this name is closed, where there is one
+abbrev pub closing : List ℕ → Sockets → Result (Unit {0}) Code
+closing name sockets = elim (socket_of name sockets) [ Some socket ↦ Ok tt | None ↦ Err code.NoEntry ]
+
+-- the sockets without it
 abbrev pub closed : List ℕ → Sockets → Sockets
 closed name sockets = remove_entry (bytes_eq name) sockets
 

@@ -41,10 +41,13 @@ fn connected_net(state: &State, uid: Uid, word: u32) -> u16
 pub(crate) fn connected(state: &State, uid: Uid, word: u32) -> u32
     ensures { result ≡ word_of (marks.connected state.now uid (fields_of word)) }
 {
+    let old = Mark::of_bits(word);
     let mark = Mark {
         net: connected_net(state, uid, word),
+        explicit: old.explicit,
+        guarded: old.guarded,
         permission: user_bits(state, uid),
-        ..Mark::of_bits(word)
+        upper: old.upper,
     };
     mark.bits()
 }
@@ -67,12 +70,13 @@ pub(crate) fn accepted(state: &State, uid: Uid, network: &StoredNetwork) -> u32
 pub(crate) fn cleared(word: u32) -> u32
     ensures { result ≡ word_of (marks.cleared (fields_of word)) }
 {
+    let old = Mark::of_bits(word);
     let mark = Mark {
         net: 0,
         explicit: false,
         guarded: false,
         permission: 0,
-        ..Mark::of_bits(word)
+        upper: old.upper,
     };
     mark.bits()
 }
@@ -81,12 +85,13 @@ pub(crate) fn cleared(word: u32) -> u32
 pub(crate) fn selected(state: &State, uid: Uid, net: u16, word: u32) -> u32
     ensures { result ≡ word_of (marks.selected state.now uid net (fields_of word)) }
 {
+    let old = Mark::of_bits(word);
     let mark = Mark {
         net,
         explicit: true,
         guarded: may_protect(state, uid),
         permission: user_bits(state, uid),
-        ..Mark::of_bits(word)
+        upper: old.upper,
     };
     mark.bits()
 }
@@ -106,12 +111,13 @@ fn protected_net(state: &State, uid: Uid, word: u32) -> u16
 pub(crate) fn protected(state: &State, uid: Uid, word: u32) -> u32
     ensures { result ≡ word_of (marks.protected state.now uid (fields_of word)) }
 {
-    let mark = Mark::of_bits(word);
+    let old = Mark::of_bits(word);
     let mark = Mark {
         net: protected_net(state, uid, word),
+        explicit: old.explicit,
         guarded: true,
-        permission: mark.permission | user_bits(state, uid),
-        ..mark
+        permission: old.permission | user_bits(state, uid),
+        upper: old.upper,
     };
     mark.bits()
 }
@@ -129,11 +135,13 @@ fn net_for(state: &State, user: Uid) -> u16
 pub(crate) fn selected_for(state: &State, uid: Uid, user: Uid, word: u32) -> u32
     ensures { result ≡ word_of (marks.selected_for state.now uid user (fields_of word)) }
 {
+    let old = Mark::of_bits(word);
     let mark = Mark {
         net: net_for(state, user),
+        explicit: old.explicit,
         guarded: true,
         permission: user_bits(state, uid),
-        ..Mark::of_bits(word)
+        upper: old.upper,
     };
     mark.bits()
 }

@@ -1,11 +1,10 @@
-ghost use Rattle.std.specs.Prelude.{◌≡◌, ◌↔◌, ◌++◌, ◌∷◌, [], None, Some, true, false, Ok, Err, length, slice_get, IfOk, IfErr, OnOk, OnErr};
+ghost use Rattle.std.specs.Prelude.{◌≡◌, ◌↔◌, ◌++◌, ◌∷◌, [], None, Some, false, Ok, Err, length, slice_get, IfOk, OnOk, OnErr};
 ghost use Rattle.std.specs.Map.{set_value};
 ghost use Rattle.std.specs.Option.{option_map};
 ghost use Rattle.std.specs.Str.{bytes_eq};
 ghost use Rattle.mark_server.specs.Fields.{word_of};
 ghost use Rattle.mark_server.specs.Marks as marks;
 ghost use Rattle.mark_server.specs.Sockets as calls;
-ghost use Rattle.net_names.specs.declared.code.Code.TheVariants as code;
 
 use crate::fault::SocketFault;
 use crate::marks::accepted;
@@ -13,7 +12,7 @@ use crate::socket::Socket;
 use indexmap::IndexMap;
 use net_names::{Code, Name};
 use policy_state::State;
-use std::alloc::Global;
+use std::alloc::{AllocError, Global};
 use std::marker::Model;
 use uid_ranges::Uid;
 
@@ -96,16 +95,13 @@ impl SocketTable {
     }
 
     // Puts the socket after the others.
-    fn push(&mut self, name: Name, socket: Socket) -> Result<u32, SocketFault>
-        requires fresh { calls.is_taken name self.old ≡ false }
+    fn push(&mut self, name: Name, socket: Socket) -> Result<(), AllocError>
+        requires { calls.is_taken name self.old ≡ false }
         ensures pushed { OnOk result (self.new ≡ self.old ++ (name, socket) ∷ []) }
-        ensures mark { IfOk result (λ mark. mark ≡ socket.mark) }
         ensures kept { OnErr result (self.new ≡ self.old) }
     {
-        match self.by_name.insert(name, socket) {
-            Ok(_) => Ok(socket.mark),
-            Err(failed) => Err(SocketFault::Memory(failed.into())),
-        }
+        self.by_name.insert(name, socket)?;
+        Ok(())
     }
 
     // Puts the socket of this name in the place of the one that is there, and answers its mark.
@@ -113,9 +109,10 @@ impl SocketTable {
         ensures sockets { self.new ≡ set_value (bytes_eq name.now) self.old socket }
         ensures mark { result ≡ socket.mark }
     {
-        if let Some(place) = self.by_name.get_mut(name) {
-            *place = socket;
-        }
+        let Some(place) = self.by_name.get_mut(name) else {
+            return socket.mark;
+        };
+        *place = socket;
         socket.mark
     }
 
@@ -135,7 +132,10 @@ impl SocketTable {
         if self.is_full() {
             return Err(SocketFault::Refused { code: Code::NoSpace });
         }
-        self.push(name, Socket::new(uid, 0))
+        match self.push(name, Socket::new(uid, 0)) {
+            Ok(()) => Ok(0),
+            Err(fault) => Err(SocketFault::Memory(fault)),
+        }
     }
 
     /// Makes a socket of this user for a connection that came in by the link. It has the network of the link, and is protected.
@@ -165,16 +165,17 @@ impl SocketTable {
         if self.is_full() {
             return Err(SocketFault::Refused { code: Code::NoSpace });
         }
-        self.push(name, Socket::new(uid, mark))
+        match self.push(name, Socket::new(uid, mark)) {
+            Ok(()) => Ok(mark),
+            Err(fault) => Err(SocketFault::Memory(fault)),
+        }
     }
 
     /// Takes the socket of this name out. The others keep their order.
     pub fn close(&mut self, name: &Name) -> Result<(), Code>
+        ensures answer { result ≡ calls.closing name.now self.old }
         ensures sockets { self.new ≡ calls.closed name.now self.old }
-        ensures there { OnOk result (calls.is_taken name.now self.old ≡ true) }
-        ensures refused { IfErr result (λ refusal. refusal ≡ code.NoEntry) }
         ensures kept { OnErr result (self.new ≡ self.old) }
-        ensures unknown { OnErr result (calls.is_taken name.now self.old ≡ false) }
     {
         match self.by_name.shift_remove(name) {
             Some(_) => Ok(()),

@@ -1,4 +1,4 @@
-ghost use Rattle.std.specs.Prelude.{◌≡◌, Some, None, OnOk, IfErr};
+ghost use Rattle.std.specs.Prelude.{◌≡◌};
 ghost use Rattle.std.specs.List.{list_any};
 ghost use Rattle.mark_server.specs.Access.{access};
 ghost use Rattle.networks.specs.Kinds.{ranges_of};
@@ -22,8 +22,7 @@ fn holds(kind: &StoredKind, uid: Uid) -> bool
 
 /// Whether the user may use the network of this id, or why it may not.
 pub fn access(state: &State, uid: Uid, net: u16) -> Result<(), Code>
-    ensures allowed { OnOk result (access state.now uid net ≡ None) }
-    ensures refused { IfErr result (λ code. access state.now uid net ≡ Some code) }
+    ensures { result ≡ access state.now uid net }
 {
     let Some(network) = state.networks().get(net) else {
         return Err(Code::NoNetwork);

@@ -3,7 +3,7 @@ ghost use Rattle.mark_server.specs.Users.{holder, vpn_of, is_held, at_lowest, fr
 ghost use Rattle.network_store.specs.Stored.{kind_of};
 ghost use Rattle.network_store.specs.Store.{nets_of};
 ghost use Rattle.networks.specs.Kinds.{is_free};
-ghost use Rattle.policy_state.specs.Good.{AreNetworks};
+ghost use Rattle.policy_state.specs.Good.{AreNetworks, IsGood};
 
 use fwmark::Permission;
 use network_store::{StoredKind, StoredNetworks};
@@ -12,7 +12,8 @@ use uid_ranges::{LAST_RANK, Uid};
 
 // The VPN of this kind whose range of the lowest rank holds the user.
 fn holder(state: &State, secure: bool, uid: Uid) -> Option<u16>
-    ensures { result ≡ id_of (holder secure state.now uid) }
+    ensures network { result ≡ id_of (holder secure state.now uid) }
+    ensures good { IsGood state.now }
 {
     let networks = state.networks();
     for rank in 0..LAST_RANK + 1 {
@@ -41,10 +42,10 @@ pub(crate) fn is_held(state: &State, uid: Uid) -> bool
 pub(crate) fn vpn_of(state: &State, uid: Uid) -> Option<u16>
     ensures { result ≡ id_of (vpn_of state.now uid) }
 {
-    match state.networks().vpn_of(uid) {
-        Some(network) => Some(network.id),
-        None => None,
-    }
+    let Some(network) = state.networks().vpn_of(uid) else {
+        return None;
+    };
+    Some(network.id)
 }
 
 // Whether it is physical and asks for no permission.
@@ -62,12 +63,13 @@ fn preferred_at(networks: &StoredNetworks, rank: u8, uid: Uid) -> Option<u16>
     requires { AreNetworks (nets_of networks.now) }
     ensures { result ≡ id_of (free_at rank uid.number (nets_of networks.now)) }
 {
-    let network = networks.preferred_at(rank, uid)?;
-    if is_free(&network.kind) {
-        Some(network.id)
-    } else {
-        None
+    let Some(network) = networks.preferred_at(rank, uid) else {
+        return None;
+    };
+    if !is_free(&network.kind) {
+        return None;
     }
+    Some(network.id)
 }
 
 // The one that it prefers at the lowest rank.
