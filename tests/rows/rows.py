@@ -9,6 +9,7 @@ from case import Case
 from limits import limit_cases
 from made import made_cases
 from texts import USAGE, text_cases
+from watches import watch_cases
 
 HERE = pathlib.Path(__file__).parent
 
@@ -89,7 +90,7 @@ def passes(program, case):
 def main():
     program, patterns = sys.argv[1], sys.argv[2:] or ["*"]
     passed = failed = 0
-    for case in [*stored_cases(), *made_cases(), *text_cases(), *limit_cases(), *edge_cases()]:
+    for case in [*stored_cases(), *made_cases(), *text_cases(), *limit_cases(), *watch_cases(), *edge_cases()]:
         if not any(fnmatch.fnmatch(case.name, pattern) for pattern in patterns):
             continue
         if passes(program, case):
