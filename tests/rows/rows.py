@@ -12,6 +12,7 @@ from lines import line_cases
 from made import made_cases
 from texts import USAGE, text_cases
 from transcripts import transcript_cases
+from watches import watch_cases
 
 HERE = pathlib.Path(__file__).parent
 
@@ -98,6 +99,7 @@ def main():
         *text_cases(),
         *line_cases(),
         *limit_cases(),
+        *watch_cases(),
         *edge_cases(),
         *failing_cases(),
         *transcript_cases(),

@@ -1,9 +1,9 @@
 -- A line is a command, or it asks the kernel nothing and leaves the controller as it is.
-use Rattle.std.proofs.Common.{◌≡◌, ◌≢◌, ◌⊎◌, ℕ, Bool, true, false, List, Option, None, Some, inl, inr, refl, ap}
+use Rattle.std.proofs.Common.{◌≡◌, ◌≢◌, ◌⊎◌, ℕ, List, Option, None, Some, Result, Ok, Err, inl, inr, refl, ap}
 use Rattle.commands.specs.declared.command.Command.{Command}
 use Rattle.kernel_model.specs.View.{KernelView}
 use Rattle.mark_server.specs.Access.{access}
-use Rattle.mark_server.specs.Sockets.{is_taken, socket_of}
+use Rattle.mark_server.specs.Sockets.{closing, socket_of}
 use Rattle.mark_server.specs.declared.socket.Socket.{Socket}
 use Rattle.net_control.specs.View.{ControllerView}
 use Rattle.net_names.specs.declared.code.Code.{Code}
@@ -75,18 +75,18 @@ module _ (n : ℕ) (s e : Standing) (turns : List Turn) (out : List ℕ) where
   but_sockets : (next : Standing) → e ≡ next → next.kernel ≡ s.kernel → next.controller ≡ s.controller → Keeps s e
   but_sockets next same kernel controller = keeps_as s next e same kernel controller
 
-  closed_keeps : (there : Bool) (name : List ℕ) → IsClosed there name n s e turns out → Keeps s e
-  closed_keeps false name told = keeps_all s e told.0
-  closed_keeps true name told = but_sockets _ told.0 refl refl
+  closed_keeps : (made : Result (Unit {0}) Code) (name : List ℕ) → IsClosed made name n s e turns out → Keeps s e
+  closed_keeps (Err c) name told = keeps_all s e told.0
+  closed_keeps (Ok u) name told = but_sockets _ told.0 refl refl
 
-  allowed_keeps : (o : Option Code) → IsAllowed o n s e turns out → Keeps s e
-  allowed_keeps None told = keeps_all s e told.0
-  allowed_keeps (Some c) told = keeps_all s e told.0
+  allowed_keeps : (made : Result (Unit {0}) Code) → IsAllowed made n s e turns out → Keeps s e
+  allowed_keeps (Ok u) told = keeps_all s e told.0
+  allowed_keeps (Err c) told = keeps_all s e told.0
 
   call_keeps : (call : SocketLine) → IsSocketLine call n s e turns out → Keeps s e
   call_keeps (socket.Open name uid) is = but_sockets _ is.0 refl refl
   call_keeps (socket.Accept name uid link) is = but_sockets _ is.0 refl refl
-  call_keeps (socket.Close name) is = closed_keeps (is_taken name s.sockets) name is
+  call_keeps (socket.Close name) is = closed_keeps (closing name s.sockets) name is
   call_keeps (socket.Bind name link) is = but_sockets _ is.0 refl refl
   call_keeps (socket.Unbind name) is = but_sockets _ is.0 refl refl
   call_keeps (socket.Connect name) is = but_sockets _ is.0 refl refl

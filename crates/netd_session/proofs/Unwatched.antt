@@ -18,6 +18,8 @@ use Rattle.rule_match.specs.declared.packet.Packet.{Packet}
 use Rattle.rule_match.specs.declared.verdict.Verdict.{Verdict}
 use Rattle.turn_text.specs.declared.answer.Answer.{Answer}
 use Rattle.turn_text.specs.declared.answer.Answer.TheVariants as answer
+use Rattle.netd_session.proofs.Requests.{noted_all}
+use Rattle.netd_session.specs.Watches.{noted_text, requests_text}
 
 -- the watches under the outermost one, and that one
 abbrev rest_of : List Watching → List Watching
@@ -103,6 +105,13 @@ module _ (k l : KernelView) (p q : Option Packet) (m n a b : ℕ) where
         subst (λ (j : List Entry). length (changes_since p (length k.journal) j) ≤ 2) (sym (ap (λ (v : KernelView). v.journal) keeps.grew))
         (few_since p k.journal keeps.entries (policy old) (policy new) keeps.moments) in
         subst (λ (c : List (ℕ × Verdict)). length c ≤ 2) (sym (changed_under ∙ ap (λ (i : ℕ). changes_since p i l.journal) begun)) few
+
+    -- and what is said of it
+    pub said_under : (number : ℕ) (state : StateView) → m ≡ length k.journal
+        → noted_text number state (changes_since q n l.journal) ≡ requests_text number state p k l
+    said_under number state begun =
+        ap (noted_text number state) (changed_under ∙ ap (λ (i : ℕ). changes_since p i l.journal) begun)
+        ∙ noted_all number state p k l keeps.entries (under_grown keeps.entries keeps.grew)
 
 pub kept_under : (c : ControllerView) (k : KernelView) (p : Option Packet) (m a : ℕ) → IsKept c (watched k p m a) → IsKept c k
 kept_under c k p m a kept = record { good = kept.good; stands = kept.stands }

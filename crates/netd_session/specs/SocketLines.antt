@@ -1,9 +1,8 @@
 -- What a socket's line says, and what it changes. No such line asks the kernel anything or changes the policy's state.
-use Rattle.std.specs.Prelude.{ℕ, Bool, true, false, List, ◌++◌, codes, Option, None, Some, Result, Ok, Err}
+use Rattle.std.specs.Prelude.{ℕ, List, ◌++◌, codes, Result, Ok, Err}
 use Rattle.mark_server.specs.Access.{access}
-use Rattle.mark_server.specs.Sockets.{Sockets, accepting, after, answer, binding, closed, connecting, is_taken, mark_in, opening, protecting, put_last, selecting, selecting_for, unbinding}
+use Rattle.mark_server.specs.Sockets.{Sockets, accepting, after, answer, binding, closed, closing, connecting, mark_in, opening, protecting, put_last, selecting, selecting_for, unbinding}
 use Rattle.net_names.specs.declared.code.Code.{Code}
-use Rattle.net_names.specs.declared.code.Code.TheVariants as code
 use Rattle.script_reader.specs.declared.line.SocketLine.{SocketLine}
 use Rattle.script_reader.specs.declared.line.SocketLine.TheVariants as socket
 use Rattle.turn_text.specs.Texts.{line_feed, refused_text}
@@ -35,15 +34,15 @@ IsMarked made sockets n s e turns out =
     IsTold (said_of_mark made) (text_of_mark made) n (record s { sockets = sockets }) e turns out
 
 -- A socket that is there is closed, which ends its watch.
-abbrev pub IsClosed : Bool → List ℕ → ℕ → (s e : Standing) → List Turn → List ℕ → Type 0
-IsClosed false name n s e turns out = IsRefused code.NoEntry n s e turns out
-IsClosed true name n s e turns out =
+abbrev pub IsClosed : Result (Unit {0}) Code → List ℕ → ℕ → (s e : Standing) → List Turn → List ℕ → Type 0
+IsClosed (Err c) name n s e turns out = IsRefused c n s e turns out
+IsClosed (Ok u) name n s e turns out =
     IsDone n (record s { sockets = closed name s.sockets; watch = watch_without name s.watch }) e turns out
 
 -- whether a user may use a network
-abbrev pub IsAllowed : Option Code → ℕ → (s e : Standing) → List Turn → List ℕ → Type 0
-IsAllowed None n s e turns out = IsDone n s e turns out
-IsAllowed (Some c) n s e turns out = IsRefused c n s e turns out
+abbrev pub IsAllowed : Result (Unit {0}) Code → ℕ → (s e : Standing) → List Turn → List ℕ → Type 0
+IsAllowed (Ok u) n s e turns out = IsDone n s e turns out
+IsAllowed (Err c) n s e turns out = IsRefused c n s e turns out
 
 abbrev pub IsSocketLine : SocketLine → ℕ → (s e : Standing) → List Turn → List ℕ → Type 0
 IsSocketLine (socket.Open name uid) n s e turns out =
@@ -53,7 +52,7 @@ IsSocketLine (socket.Accept name uid link) n s e turns out =
     IsMarked (mark_in (accepting s.controller.state name uid link s.sockets))
     (put_last name (accepting s.controller.state name uid link s.sockets) s.sockets) n s e turns out
 IsSocketLine (socket.Close name) n s e turns out =
-    IsClosed (is_taken name s.sockets) name n s e turns out
+    IsClosed (closing name s.sockets) name n s e turns out
 IsSocketLine (socket.Bind name link) n s e turns out =
     IsMarked (answer name (binding s.controller.state link) s.sockets)
     (after name (binding s.controller.state link) s.sockets) n s e turns out
