@@ -1,4 +1,4 @@
-use Rattle.std.proofs.Common.{◌≡◌, ◌∙◌, ◌<◌, ◌/◌, ◌%◌, ◌^◌, ◌==◌, ℕ, Bool, cond, sym, ap, arith}
+use Rattle.std.proofs.Common.{◌≡◌, ◌∙◌, ◌/◌, ◌%◌, ◌^◌, ◌==◌, ℕ, Bool, cond, sym, ap, arith}
 use Rattle.fwmark.proofs.Bits.{digit-test, fields-sum}
 use Rattle.fwmark.proofs.Same.{fields_of-word_of}
 use Rattle.fwmark.specs.declared.mark.Mark.{Mark}
