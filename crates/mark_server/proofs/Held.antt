@@ -1,23 +1,23 @@
 -- Whom a network holds, at some rank or at all.
-use Rattle.std.proofs.Common.{◌≡◌, ℕ, ◌+◌, ◌<◌, ◌≤◌, ◌==◌, ◌&&◌, ◌||◌, Bool, true, false, List, [], ◌∷◌, find, nat_le, nat_lt, Option, Some, None, is_some, refl, sym, ap, subst, ◌∙◌, arith, inl, inr}
+use Rattle.std.proofs.Common.{◌≡◌, ℕ, ◌<◌, ◌≤◌, ◌==◌, ◌&&◌, ◌||◌, Bool, true, false, List, [], ◌∷◌, find, nat_le, nat_lt, Option, Some, None, is_some, refl, sym, ap, ◌∙◌, arith, inl, inr}
 use Rattle.std.specs.List.{list_any, list_all, AllByRecursion}
 use Rattle.std.specs.Option.{option_map}
 use Rattle.std.proofs.lemmas.Bool.{cases_Bool, and_parts, or_parts, or_from, ltb-true, ltb-false, false≢true}
 use Rattle.std.proofs.lemmas.Bool.Decides.{nat_tests}
-use Rattle.std.proofs.lemmas.Option.{none-some, same_Some}
+use Rattle.std.proofs.lemmas.Option.{none-some}
 use Rattle.list_lemmas.proofs.Alls.{all-weaker}
 use Rattle.list_lemmas.proofs.Found.{find-none-any, some-any}
 use Rattle.list_lemmas.proofs.Numbers.{eqb-refl}
 use Rattle.mark_server.proofs.Ranks.{found-lowest, some-lowest, no-lowest}
-use Rattle.mark_server.specs.Users.{at_lowest, vpn_of, holder, is_held}
-use Rattle.network_store.specs.Holders.{holds_rank, user_at, holder_at, is_vpn, IsVpnOf}
+use Rattle.mark_server.specs.Users.{vpn_of, holder, is_held}
+use Rattle.network_store.specs.Holders.{holds_rank, user_at, holder_at, IsVpnOf}
 use Rattle.network_store.specs.RankIndex.{holds_at}
 use Rattle.networks.specs.Kinds.{ranges_of, is_virtual, is_secure}
 use Rattle.networks.specs.declared.network.Network.{Network}
-use Rattle.policy_state.specs.Good.{AreNetworks, IsNetwork, IsGood}
+use Rattle.policy_state.specs.Good.{AreNetworks, IsNetwork}
 use Rattle.policy_state.specs.View.{StateView}
 use Rattle.uid_ranges.specs.Range.{holds}
-use Rattle.uid_ranges.specs.Ranks.{holds_user, are_ranked, are_apart}
+use Rattle.uid_ranges.specs.Ranks.{holds_user, are_apart}
 use Rattle.list_lemmas.specs.Pairwise.{pairwise}
 use Rattle.uid_ranges.specs.declared.ranked.Ranked.{Ranked}
 use Rattle.uid_ranges.specs.declared.range.Uid.{Uid}

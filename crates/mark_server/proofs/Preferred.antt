@@ -1,8 +1,7 @@
 -- The physical network without a permission that an app prefers at a rank: the one that it prefers there, if that asks for none.
-use Rattle.std.proofs.Common.{◌≡◌, ℕ, ◌==◌, ◌&&◌, ◌||◌, Bool, true, false, not, List, [], ◌∷◌, find, Option, Some, None, if◌then◌else◌, refl, sym, ap, ◌∙◌, inl, inr}
+use Rattle.std.proofs.Common.{◌≡◌, ℕ, ◌==◌, ◌&&◌, ◌||◌, Bool, true, false, not, List, [], ◌∷◌, refl, sym, ◌∙◌, inl, inr}
 use Rattle.std.specs.List.{list_any, list_all}
 use Rattle.std.proofs.lemmas.Bool.{cases_Bool, and_parts, or_from, both_ways, eqb-true, eq-eqb, false≢true}
-use Rattle.fwmark.specs.declared.permission.Permission.TheVariants as permission
 use Rattle.list_lemmas.proofs.Found.{find-none-any}
 use Rattle.list_lemmas.specs.Pairwise.{pairwise}
 use Rattle.mark_server.specs.Users.{free_at}
@@ -15,7 +14,7 @@ use Rattle.networks.specs.declared.kind.Kind.TheVariants as kind
 use Rattle.networks.specs.declared.network.Network.{Network}
 use Rattle.policy_state.specs.Good.{nets_differ, ranks_differ, differ}
 use Rattle.uid_ranges.proofs.Shared.{meets_from_shared}
-use Rattle.uid_ranges.specs.Range.{meets, holds}
+use Rattle.uid_ranges.specs.Range.{holds}
 use Rattle.uid_ranges.specs.declared.ranked.Ranked.{Ranked}
 
 free-physical : (k : Kind) → is_free k ≡ true → is_physical k ≡ true

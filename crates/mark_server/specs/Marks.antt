@@ -1,5 +1,5 @@
 -- What the calls make of the fields of a mark, after netd's FwmarkServer. Fields that aren't named stay as they are.
-use Rattle.std.specs.Prelude.{ℕ, ◌&&◌, Bool, true, false, not, unwrap_or, bit_or, if◌then◌else◌}
+use Rattle.std.specs.Prelude.{ℕ, ◌&&◌, true, false, not, unwrap_or, bit_or, if◌then◌else◌}
 use Rattle.std.specs.Option.{option_or}
 use Rattle.fwmark.specs.Permission.{bits_of}
 use Rattle.mark_server.specs.Fields.{Fields}

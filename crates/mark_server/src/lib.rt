@@ -2,6 +2,7 @@
 #![tactic(auto)]
 
 mod fault;
+mod laws;
 mod marks;
 mod socket;
 mod table;
@@ -10,6 +11,7 @@ mod user_networks;
 mod users;
 
 pub use fault::SocketFault;
+pub use laws::words_have_their_fields;
 pub use socket::Socket;
 pub use table::{MOST_SOCKETS, SocketTable};
 pub use user_access::access;

@@ -130,7 +130,9 @@ impl SocketTable {
             return Err(SocketFault::Refused { code: Code::Exists });
         }
         if self.is_full() {
-            return Err(SocketFault::Refused { code: Code::NoSpace });
+            return Err(SocketFault::Refused {
+                code: Code::NoSpace,
+            });
         }
         match self.push(name, Socket::new(uid, 0)) {
             Ok(()) => Ok(0),
@@ -163,7 +165,9 @@ impl SocketTable {
             });
         };
         if self.is_full() {
-            return Err(SocketFault::Refused { code: Code::NoSpace });
+            return Err(SocketFault::Refused {
+                code: Code::NoSpace,
+            });
         }
         match self.push(name, Socket::new(uid, mark)) {
             Ok(()) => Ok(mark),

@@ -1,9 +1,8 @@
-use Rattle.std.proofs.Common.{◌≡◌, ◌∙◌, ◌<◌, None, Some, sym, ap, subst, arith}
+use Rattle.std.proofs.Common.{◌≡◌, None, Some, sym, ap, subst, arith}
 use Rattle.mark_server.proofs.Ranks.{id-lowest, no-id-lowest, none-next}
 use Rattle.mark_server.specs.Users.{id_of, at_lowest}
 use Rattle.network_store.specs.Holders.{holder_at}
 use Rattle.network_store.specs.Store.{nets_of}
-use Rattle.network_store.specs.Stored.{net_of}
 use Rattle.mark_server.proofs.user_networks.holder.Goals as goal
 
 pub loop-rank-init : goal.loop-rank-init

@@ -1,4 +1,4 @@
-use Rattle.std.proofs.Common.{◌≡◌, ◌∙◌, ◌<◌, None, Some, sym, ap, subst, arith}
+use Rattle.std.proofs.Common.{◌≡◌, None, Some, sym, subst, arith}
 use Rattle.mark_server.proofs.Ranks.{id-lowest, no-id-lowest, none-next}
 use Rattle.mark_server.specs.Users.{id_of, at_lowest, free_at}
 use Rattle.network_store.specs.Store.{nets_of}

@@ -1,8 +1,7 @@
 use Rattle.std.proofs.Common.{◌≡◌, ◌∙◌, None, Some, refl, sym, ap}
 use Rattle.mark_server.proofs.Preferred.{free-preferred}
-use Rattle.mark_server.specs.Users.{id_of, free_at}
+use Rattle.mark_server.specs.Users.{id_of}
 use Rattle.network_store.proofs.Holders.{kept_if}
-use Rattle.network_store.specs.Holders.{preferred_at}
 use Rattle.network_store.specs.Store.{nets_of}
 use Rattle.network_store.specs.Stored.{net_of}
 use Rattle.networks.specs.Kinds.{is_free}

@@ -1,7 +1,7 @@
-use Rattle.std.proofs.Common.{◌≡◌, ◌∙◌, None, Some, sym, ap, subst}
+use Rattle.std.proofs.Common.{◌≡◌, None, sym, ap, subst}
 use Rattle.mark_server.proofs.Held.{low-networks, vpn-is}
 use Rattle.mark_server.proofs.Ranks.{none-lowest}
-use Rattle.mark_server.specs.Users.{id_of, at_lowest, vpn_of}
+use Rattle.mark_server.specs.Users.{id_of, at_lowest}
 use Rattle.network_store.specs.Holders.{user_at, IsVpnOf}
 use Rattle.network_store.specs.Store.{nets_of}
 use Rattle.network_store.specs.Stored.{net_of}
