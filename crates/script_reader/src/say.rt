@@ -1,4 +1,6 @@
-ghost use Rattle.std.specs.Prelude.{◌≡◌};
+ghost use Rattle.std.specs.Prelude.{◌≡◌, Some};
+ghost use Rattle.commands.specs.declared.command.Command.TheVariants as command;
+ghost use Rattle.script_reader.specs.declared.line.Line.TheVariants as line;
 ghost use Rattle.script_reader.specs.Parts.{IsPartsOf};
 ghost use Rattle.script_reader.specs.Rows.{says};
 
@@ -69,6 +71,19 @@ pub fn say(form: Form, v: Values, ranges: Ranges) -> Line
     }
 }
 
+// The form of a line that gives a VPN users: a rank of 0 isn't written.
+#[rattlefmt::skip]
+fn users_parts(net: u16, rank: u8, ranges: &[UidRange]) -> (Form, Values, &[UidRange])
+    ensures { IsPartsOf (line.Control (command.UsersAdd net rank ranges.now)) (Some result) }
+{
+    let none = Values::nothing();
+    if rank == 0 {
+        (Form::UsersAdd, Values { net, ..none }, ranges)
+    } else {
+        (Form::UsersAddRank, Values { net, rank, ..none }, ranges)
+    }
+}
+
 /// The form of a line, its values and its ranges. A blank line has none.
 #[rattlefmt::skip]
 pub fn parts(line: &Line) -> Option<(Form, Values, &[UidRange])>
@@ -89,8 +104,7 @@ pub fn parts(line: &Line) -> Option<(Form, Values, &[UidRange])>
         Line::Control(Command::RouteRemove { net, name, prefix, special: true }) => Some((Form::RouteRemoveSpecial, Values { net: *net, name: *name, prefix: *prefix, ..none }, &[])),
         Line::Control(Command::LockdownAdd { range }) => Some((Form::LockdownAdd, Values { range: *range, ..none }, &[])),
         Line::Control(Command::LockdownRemove { range }) => Some((Form::LockdownRemove, Values { range: *range, ..none }, &[])),
-        Line::Control(Command::UsersAdd { net, rank: 0, ranges }) => Some((Form::UsersAdd, Values { net: *net, ..none }, ranges.as_slice())),
-        Line::Control(Command::UsersAdd { net, rank, ranges }) => Some((Form::UsersAddRank, Values { net: *net, rank: *rank, ..none }, ranges.as_slice())),
+        Line::Control(Command::UsersAdd { net, rank, ranges }) => Some(users_parts(*net, *rank, ranges.as_slice())),
         Line::Control(Command::UsersRemove { net, ranges }) => Some((Form::UsersRemove, Values { net: *net, ..none }, ranges.as_slice())),
         Line::Control(Command::AppAdd { net, rank, ranges }) => Some((Form::AppAdd, Values { net: *net, rank: *rank, ..none }, ranges.as_slice())),
         Line::Control(Command::AppRemove { net, ranges }) => Some((Form::AppRemove, Values { net: *net, ..none }, ranges.as_slice())),
