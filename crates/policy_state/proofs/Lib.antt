@@ -31,3 +31,4 @@ pub mod TallyChanges
 pub mod CountsAfter
 pub mod CountsLess
 pub mod AcceptLemmas
+pub mod TalliesTurned

@@ -8,6 +8,7 @@ pub mod Good
 pub mod Step
 pub mod Change
 pub mod Accept
+pub mod ChangedNet
 pub mod UserLists
 pub mod Users
 pub mod Room

@@ -1,10 +1,11 @@
 // Whether a network or an interface may come, change or go.
-ghost use Rattle.std.specs.Prelude.{◌≡◌, IfOk};
+ghost use Rattle.std.specs.Prelude.{◌≡◌, None, IfNone, IfOk};
 ghost use Rattle.std.specs.Result.{result_err};
-ghost use Rattle.fwmark.specs.declared.permission.Permission.{Permission};
+ghost use Rattle.fwmark.specs.declared.permission.Permission.TheVariants as needs;
 ghost use Rattle.commands.specs.declared.command.Command.TheVariants as command;
 ghost use Rattle.policy_state.specs.Accept.{Makes};
 ghost use Rattle.policy_state.specs.Good.{IsGood};
+ghost use Rattle.networks.specs.Lists.{find_id};
 ghost use Rattle.policy_state.specs.Parts.{view_of};
 ghost use Rattle.policy_state.specs.Step as step;
 
@@ -25,8 +26,9 @@ const LEAST_ID: u16 = 100;
 impl Parts {
     // Why no network of this id can be created.
     fn id_refusal(&self, net: u16) -> Option<Code>
-        ensures { (permission : Permission) → result ≡ step.first_that_holds
-            (step.reasons (view_of self.now) (command.CreatePhysical net permission)) }
+        ensures code { result ≡ step.first_that_holds
+            (step.reasons (view_of self.now) (command.CreatePhysical net needs.Nothing)) }
+        ensures fresh { IfNone result (find_id net (view_of self.now).networks ≡ None) }
     {
         if net < LEAST_ID {
             return Some(Code::Invalid);
@@ -87,6 +89,7 @@ impl Parts {
         net: u16,
         name: &Name,
     ) -> Result<Change<'static>, Code>
+        requires { IsGood (view_of self.now) }
         ensures code { result_err result ≡ step.first_that_holds
             (step.reasons (view_of self.now) (command.InterfaceAdd net name.now)) }
         ensures makes { IfOk result
