@@ -24,3 +24,4 @@ pub mod RouteLists
 pub mod NetworkSteps
 pub mod Goodness
 pub mod Turns
+pub mod UserTables

@@ -2,10 +2,12 @@
 #![tactic(auto)]
 
 mod change;
+mod commit;
 mod fault;
 mod laws;
 mod parts;
 mod picked;
+mod room;
 mod routes;
 mod row;
 mod rows;
