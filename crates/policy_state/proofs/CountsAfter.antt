@@ -5,7 +5,7 @@ use Rattle.std.specs.List.{list_any}
 use Rattle.std.specs.Option.{option_map, option_or}
 use Rattle.std.proofs.lemmas.Bool.{cases_Bool, false≢true, and_parts, and_from, or_parts, not-true, eqb-true, eq-eqb}
 use Rattle.std.proofs.lemmas.List.{length-append, length-map, map-append}
-use Rattle.std.proofs.lemmas.List.Sums.{sum_by_push}
+use Rattle.std.proofs.lemmas.List.Sums.{sum_by_push, count_by-le-length}
 use Rattle.std.proofs.lemmas.List.Folds.{find-append}
 use Rattle.std.proofs.lemmas.Nat.{mul-le}
 use Rattle.std.proofs.lemmas.Option.{none-some}
@@ -24,7 +24,8 @@ use Rattle.policy_state.specs.Counts.{rule_count}
 use Rattle.policy_state.specs.Good.{IsWellFormed, is_default_there}
 use Rattle.policy_state.specs.Rows.{is_default, links_of, default_among, default_of}
 use Rattle.policy_state.specs.Step.{with_net, with_new_net, with_link, with_ranges, with_permission, asking_for, kind_with, without_link, without_ranges, kind_without}
-use Rattle.policy_state.specs.Tallies.{alone, per_link, per_range, own, own_rules, virtuals, default_links, rules_in_all, tallied, share}
+use Rattle.policy_state.specs.Tallies.{alone, per_link, per_range, own, own_rules, virtuals, default_links, rules_in_all, tallied, tallies_of}
+use Rattle.policy_state.specs.declared.count.Tallies.{Tallies}
 use Rattle.policy_state.specs.View.{Kind, Local, Physical, Virtual, Ranked, Network, TetherPair, StateView}
 use Rattle.policy_state.proofs.Members.{find-none, find-passes}
 use Rattle.policy_state.proofs.GoodStates.{same-ids}
@@ -43,6 +44,11 @@ rules-tallied s keyed = count-is s ∙ count-tallied s keyed
 
 with_link-new : (n : Network) (link : ℕ) → has_link n link ≡ false → with_link link n ≡ record n { interfaces = n.interfaces ++ link ∷ [] }
 with_link-new n link absent = rw absent refl
+
+pub asking-other : (permission : Permission) (k : Kind) → is_physical k ≡ false → asking_for permission k ≡ k
+asking-other permission Local h = refl
+asking-other permission (Physical old apps) h = absurd (false≢true (sym h))
+asking-other permission (Virtual secure users) h = refl
 
 asking-class : (permission : Permission) (k : Kind) → class_of (asking_for permission k) ≡ class_of k
 asking-class permission Local = refl
@@ -216,6 +222,22 @@ module _ (s : StateView) (formed : IsWellFormed s) where
   pub rules-now : rule_count s ≡ tallied s
   rules-now = rules-tallied s keyed
 
+  pub virtuals-few : virtuals s.networks ≤ 1000
+  virtuals-few = omega (arith, count_by-le-length (λ (n : Network). is_virtual n.kind) s.networks, formed.networks.few)
+
+  pub own-few : rule_count s ≤ 40000 → own_rules s.networks ≤ 40000
+  own-few few =
+      let now : rule_count s ≡ own_rules s.networks + (virtuals s.networks + 1) * default_links s + length s.lockdown + length s.pairs + 2 = rules-now in
+      omega (arith, now, few)
+
+  -- the sum of what is kept and found
+  pub rules-from : (t : Tallies) (links ranges pairs : ℕ) → t ≡ tallies_of s.networks → links ≡ default_links s → ranges ≡ length s.lockdown → pairs ≡ length s.pairs
+      → rules_in_all t.own t.virtuals links ranges pairs ≡ rule_count s
+  rules-from t links ranges pairs tallies l r p =
+      ap (λ (u : Tallies). rules_in_all u.own u.virtuals links ranges pairs) tallies
+      ∙ (ap₂ (λ (m n : ℕ). rules_in_all (own_rules s.networks) (virtuals s.networks) m n pairs) l r
+      ∙ (ap (λ m. rules_in_all (own_rules s.networks) (virtuals s.networks) (default_links s) (length s.lockdown) m) p ∙ sym rules-now))
+
   module _ (net : ℕ) (n : Network) (found : find_id net s.networks ≡ Some n) (change : Network → Network) (same_id : (m : Network) → (change m).id ≡ m.id) (same_class : (m : Network) → class_of (change m).kind ≡ class_of m.kind) where
     abbrev t : StateView
     t = with_net net change s
@@ -262,7 +284,21 @@ module _ (s : StateView) (formed : IsWellFormed s) where
     | inr e ↦ rw e (ap (λ rest. m ∷ rest) (idle net ms))
   ]
 
+  -- no network has the id
+  pub absent : (net : ℕ) (change : Network → Network) → find_id net s.networks ≡ None → with_net net change s ≡ s
+  absent net change none = ap (λ ns. record s { networks = ns }) (by s.networks none)
+    where
+      by : (ns : List Network) → find_id net ns ≡ None → with_change net change ns ≡ ns
+      by [] h = refl
+      by (n ∷ ns) h = elim (cases_Bool (net == n.id)) as (λ _. with_change net change (n ∷ ns) ≡ n ∷ ns) [
+        | inl e ↦ absurd (none-some n (sym (rw e at h)))
+        | inr e ↦ rw e (ap (λ rest. n ∷ rest) (by ns (rw e at h)))
+      ]
+
   module _ (net : ℕ) (n : Network) (found : find_id net s.networks ≡ Some n) where
+    pub here : Has s.networks n
+    here = find-has (λ (m : Network). net == m.id) s.networks n found
+
     default-here : (is_default s.default net && is_physical n.kind) ≡ true → default_links s ≡ length n.interfaces
     default-here e =
         sym (ap (λ ns. length (links_of (default_among ns s.default))) (idle net s.networks))

@@ -1,14 +1,15 @@
 //! How many rules a state has, and how many after a change, without going over its networks.
-ghost use Rattle.std.specs.Prelude.{◌≡◌, ◌≤◌, ◌+◌, ◌*◌, ◌∷◌, [], ℕ, List, None, length, nat_lt};
+ghost use Rattle.std.specs.Prelude.{◌≡◌, ◌≤◌, ◌&&◌, ◌+◌, ◌*◌, ◌∷◌, [], ℕ, List, None, length, nat_lt};
 ghost use Rattle.fwmark.specs.declared.permission.Permission.{Permission};
 ghost use Rattle.network_store.specs.Stored.{kind_of};
+ghost use Rattle.networks.specs.Kinds.{is_physical};
 ghost use Rattle.networks.specs.Lists.{find_link};
 ghost use Rattle.networks.specs.Network.{local_network};
 ghost use Rattle.policy_state.specs.Change.{Fits, turned};
 ghost use Rattle.policy_state.specs.Counts.{rule_count};
-ghost use Rattle.policy_state.specs.Good.{IsGood, most_ranges, most_rules};
+ghost use Rattle.policy_state.specs.Good.{IsGood, most_networks, most_ranges, most_rules};
 ghost use Rattle.policy_state.specs.Parts.{view_of, IsTallied};
-ghost use Rattle.policy_state.specs.Rows.{default_among, links_of};
+ghost use Rattle.policy_state.specs.Rows.{default_among, is_default, links_of};
 ghost use Rattle.policy_state.specs.Step.{with_net, with_link, with_ranges, with_permission};
 ghost use Rattle.policy_state.specs.Tallies as tallies;
 ghost use Rattle.policy_state.specs.View.{StateView};
@@ -16,9 +17,9 @@ ghost use Rattle.uid_ranges.specs.declared.range.UidRange.{UidRange};
 
 use crate::change::Change;
 use crate::parts::Parts;
-use crate::picked::default_network;
+use crate::picked::{default_network, is_default};
 use fwmark::Permission;
-use network_store::StoredKind;
+use network_store::{StoredKind, StoredNetwork};
 
 /// The most rules that a kernel is given in each family.
 const MOST_RULES: u64 = 40000;
@@ -32,6 +33,15 @@ pub struct Tallies {
 }
 
 impl Tallies {
+    pub(crate) fn nothing() -> Tallies
+        ensures { result ≡ record { own = 0; virtuals = 0 } }
+    {
+        Tallies {
+            own: 0,
+            virtuals: 0,
+        }
+    }
+
     // Those of the local network alone.
     pub(crate) fn at_start() -> Tallies
         ensures { result ≡ tallies.tallies_of (local_network ∷ []) }
@@ -44,7 +54,8 @@ impl Tallies {
 }
 
 fn rules_in_all(own: u64, virtuals: u64, links: u64, lockdown: u64, pairs: u64) -> u64
-    requires { tallies.rules_in_all own virtuals links lockdown pairs ≤ most_rules }
+    requires few_rules { tallies.rules_in_all own virtuals links lockdown pairs ≤ most_rules }
+    requires few { virtuals ≤ most_networks }
     ensures { result ≡ tallies.rules_in_all own virtuals links lockdown pairs }
 {
     own + (virtuals + 1) * links + lockdown + pairs + 2
@@ -62,7 +73,7 @@ fn per_link_asking(permission: Permission) -> u64
 }
 
 // How many rules each interface of a network of this kind has.
-fn per_link(kind: &StoredKind) -> u64
+pub(crate) fn per_link(kind: &StoredKind) -> u64
     ensures value { result ≡ tallies.per_link (kind_of kind.now) }
     ensures few { result ≤ 4 }
 {
@@ -74,7 +85,7 @@ fn per_link(kind: &StoredKind) -> u64
 }
 
 // And how many it has with each range.
-fn per_range(kind: &StoredKind) -> u64
+pub(crate) fn per_range(kind: &StoredKind) -> u64
     ensures value { result ≡ tallies.per_range (kind_of kind.now) }
     ensures few { result ≤ 3 }
 {
@@ -99,6 +110,25 @@ impl Parts {
         }
     }
 
+    // The tallies, which are as small as a state's.
+    pub(crate) fn few_tallies(&self) -> Tallies
+        requires good { IsGood (view_of self.now) }
+        requires tallied { IsTallied self.now }
+        ensures value { result ≡ tallies.tallies_of (view_of self.now).networks }
+        ensures few_rules { result.own ≤ most_rules }
+        ensures few { result.virtuals ≤ most_networks }
+    {
+        self.tallies
+    }
+
+    // Whether the network, which has this id, is the default one.
+    fn is_default(&self, net: u16, network: &StoredNetwork) -> bool
+        ensures { result ≡
+            (is_default (view_of self.now).default net && is_physical (kind_of network.now.kind)) }
+    {
+        is_default(self.default, net) && network.kind.is_physical()
+    }
+
     /// How many rules the kernel has in each family for the state, beside its own.
     pub(crate) fn rule_count(&self) -> u64
         requires good { IsGood (view_of self.now) }
@@ -106,9 +136,10 @@ impl Parts {
         ensures value { result ≡ rule_count (view_of self.now) }
         ensures few { result ≤ most_rules }
     {
+        let tallies = self.few_tallies();
         rules_in_all(
-            self.tallies.own,
-            self.tallies.virtuals,
+            tallies.own,
+            tallies.virtuals,
             self.links_by(self.default),
             self.lockdown.len() as u64,
             self.pairs.len() as u64,
@@ -127,8 +158,8 @@ impl Parts {
         };
         let ranges = network.kind.ranges().len() as u64;
         let rules = self.rule_count() + per_link(&network.kind) + per_range(&network.kind) * ranges;
-        if self.default == Some(net) && network.kind.is_physical() {
-            rules + self.tallies.virtuals + 1
+        if self.is_default(net, network) {
+            rules + self.few_tallies().virtuals + 1
         } else {
             rules
         }
@@ -173,7 +204,7 @@ impl Parts {
         requires tallied { IsTallied self.now }
         ensures { result ≡ rule_count (record (view_of self.now) { default = default }) }
     {
-        let each = self.tallies.virtuals + 1;
+        let each = self.few_tallies().virtuals + 1;
         let rules = self.rule_count() + each * self.links_by(default);
         rules - each * self.links_by(self.default)
     }
