@@ -232,7 +232,7 @@ all_shared : are_shared [] FORMS ≡ true
 all_shared = refl
 
 abbrev first_entry : Entry
-first_entry = record { form = form.LinkAdd; shared = 0 }
+first_entry = record { form = form.Packet; shared = 0 }
 
 shared_at : (before : List Kind) (entries : List Entry) (place : ℕ) → are_shared before entries ≡ true →
     Agree (get_or entries (suc place) first_entry).shared (kinds_of (get_or entries place first_entry).form) (kinds_of (get_or entries (suc place) first_entry).form)
@@ -288,7 +288,7 @@ tried_more cursor place reached next farthest most within tried is stop =
     let at_form = get_or-map {A = Entry} {B = Form} (λ entry. entry.form) FORMS place first_entry in
     let there = stops_there next.count (kinds_at_entry place) (words_left cursor) (end_of cursor) next.after.column stop.fit
     (subst (λ (ws : List Word). StopsHere (drop next.count (kinds_at_entry place)) ws (end_of cursor) next.after.column) stop.after.words stop.stops) in
-    let more = one_more script cursor place farthest next.after.column most form.LinkAdd within is
+    let more = one_more script cursor place farthest next.after.column most form.Packet within is
     (subst (λ (f : Form). Stops (kinds_of f) (words_left cursor) (end_of cursor) next.after.column) (sym at_form) there) (tried.each, tried.one) in
     record {
       each = more.0;

@@ -1,5 +1,6 @@
 ghost use Rattle.std.specs.Prelude.{◌≡◌};
 ghost use Rattle.word_text.specs.Kinds.{kinds_in};
+ghost use Rattle.script_reader.specs.declared.form.TheConstants.{FORMS};
 
 use word_text::Kind;
 
@@ -121,6 +122,13 @@ pub const FORMS: [Entry; 51] = [
     Entry { form: Form::ShowNetworks, shared: 1 },
     Entry { form: Form::ShowSockets, shared: 1 },
 ];
+
+/// The entries of all forms.
+pub fn entries() -> &'static [Entry]
+    ensures { result.now ≡ FORMS }
+{
+    &FORMS
+}
 
 impl Form {
     ghost use Rattle.script_reader.specs.Rows.{kinds_of};
