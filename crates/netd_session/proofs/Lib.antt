@@ -1,5 +1,6 @@
 pub mod Tellings
 pub mod Asking
+pub mod Rooms
 pub mod Requests
 pub mod Unwatched
 pub mod Growing

@@ -34,6 +34,13 @@ first_of other (w ∷ ws) = w
 abbrev under : KernelView → KernelView
 under k = record k { watching = rest_of k.watching }
 
+-- what is so of one kernel is so of the same one by another name
+pub moved_one : (P : KernelView → Type 0) (l l0 : KernelView) → l ≡ l0 → P l0 → P l
+moved_one P l l0 b is = subst P (sym b) is
+
+pub moved : (P : KernelView → KernelView → Type 0) (k l k0 l0 : KernelView) → k ≡ k0 → l ≡ l0 → P k0 l0 → P k l
+moved P k l k0 l0 a b is = subst (λ (v : KernelView). P v l) (sym a) (subst (P k0) (sym b) is)
+
 -- the kernel before and after, each with the watch that it has then
 module _ (k l : KernelView) (p q : Option Packet) (m n a b : ℕ) where
   under_grown : (entries : List Entry) → watched l q n b ≡ grown (watched k p m a) entries → l ≡ grown k entries

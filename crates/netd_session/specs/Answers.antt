@@ -78,20 +78,18 @@ pub record IsCommanded (command : Command) (n : ℕ) (s e : Standing) (turns : L
 abbrev pub IsShown : List ℕ → ℕ → (s e : Standing) → List Turn → List ℕ → Type 0
 IsShown text n s e turns out = IsTold said.Shown text n s e turns out
 
--- where a packet with this mark goes, and the rules that it meets on the way
-abbrev pub went_text : StateView → ℕ → Verdict → List Step → List ℕ
-went_text state mark verdict trail =
+-- where a packet with this mark goes
+abbrev pub watch_text : StateView → ℕ → Verdict → List ℕ
+watch_text state mark verdict =
     codes "mark " ++ mark_text mark ++ codes " " ++ verdict_text state verdict ++ line_feed
-    ++ trail_text trail
+
+-- and the rules that it meets on the way
+abbrev pub went_text : StateView → ℕ → Verdict → List Step → List ℕ
+went_text state mark verdict trail = watch_text state mark verdict ++ trail_text trail
 
 -- where a packet goes that is passed on, and the rules that it meets on the way
 abbrev pub passed_text : StateView → Verdict → List Step → List ℕ
 passed_text state verdict trail = verdict_text state verdict ++ line_feed ++ trail_text trail
-
--- where the watched packet goes, with its mark
-abbrev pub watch_text : StateView → ℕ → Verdict → List ℕ
-watch_text state mark verdict =
-    codes "mark " ++ mark_text mark ++ codes " " ++ verdict_text state verdict ++ line_feed
 
 -- a packet's line says where the policy sends it, and prints the rules that it meets on the way
 abbrev pub IsTraced : Packet → ℕ → (s e : Standing) → List Turn → List ℕ → Type 0

@@ -35,9 +35,12 @@ watch_without name None = None
 watch_without name (Some watch) = if bytes_eq watch.socket name then None else Some watch
 
 -- a request, by its number, and where the watched packet goes after it
+abbrev pub change_text : StateView → ℕ → Verdict → List ℕ
+change_text state request verdict =
+    codes "request " ++ decimal request ++ codes " " ++ verdict_text state verdict ++ line_feed
+
 abbrev pub request_text : ℕ → StateView → ℕ → Verdict → List ℕ
-request_text n state request verdict =
-    numbered n (codes "request " ++ decimal request ++ codes " " ++ verdict_text state verdict ++ line_feed)
+request_text n state request verdict = numbered n (change_text state request verdict)
 
 -- What is said of the request after the first r entries of a journal: nothing, or where the packet goes after it, if that
 -- is another way than just before.

@@ -27,6 +27,22 @@ use std::alloc::{AllocError, Global};
 use turn_text::write_line_number;
 use word_text::write_mark;
 
+// Appends where a packet goes, with its mark.
+fn write_marked_verdict(
+    state: &State,
+    mark: u32,
+    verdict: &Verdict,
+    answer: &mut Vec<u8>,
+) -> Result<(), AllocError>
+    ensures { Appends answer.old answer.new result (watch_text state.now mark verdict.now) }
+{
+    append_bytes(b"mark ", answer)?;
+    write_mark(mark, answer)?;
+    append_bytes(b" ", answer)?;
+    write_verdict(state, verdict, answer)?;
+    append_bytes(b"\n", answer)
+}
+
 // Appends the text of a packet's way.
 fn write_way(
     state: &State,
@@ -38,11 +54,7 @@ fn write_way(
     ensures { Appends answer.old answer.new result
         (went_text state.now mark verdict.now trail.now.steps) }
 {
-    append_bytes(b"mark ", answer)?;
-    write_mark(mark, answer)?;
-    append_bytes(b" ", answer)?;
-    write_verdict(state, verdict, answer)?;
-    append_bytes(b"\n", answer)?;
+    write_marked_verdict(state, mark, verdict, answer)?;
     write_trail(trail, answer)
 }
 
@@ -120,22 +132,6 @@ pub(crate) fn tell_passed<K: Kernel>(
         mark: packet.mark(),
         verdict,
     })
-}
-
-// Appends where a packet goes, with its mark.
-fn write_marked_verdict(
-    state: &State,
-    mark: u32,
-    verdict: &Verdict,
-    answer: &mut Vec<u8>,
-) -> Result<(), AllocError>
-    ensures { Appends answer.old answer.new result (watch_text state.now mark verdict.now) }
-{
-    append_bytes(b"mark ", answer)?;
-    write_mark(mark, answer)?;
-    append_bytes(b" ", answer)?;
-    write_verdict(state, verdict, answer)?;
-    append_bytes(b"\n", answer)
 }
 
 // Tells where the policy sends the packet, which is where the kernel's rules send it.

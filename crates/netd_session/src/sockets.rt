@@ -15,21 +15,28 @@ use crate::watch::Watch;
 use kernel_model::Kernel;
 use mark_server::{SocketFault, access};
 use net_names::{Code, Name};
-use number_text::append_bytes;
+use number_text::{append_bytes, write_decimal};
 use script_reader::SocketLine;
 use std::alloc::AllocError;
-use turn_text::{Answer, put_answer, write_line_number};
+use turn_text::{Answer, put_answer};
 use uid_ranges::Uid;
 use word_text::write_mark;
 
-// Appends a socket's new mark.
-fn write_mark_line(number: u32, mark: u32, out: &mut Vec<u8>) -> Result<(), AllocError>
-    ensures { Appends out.old out.new result (numbered number (mark_line mark)) }
+fn write_mark_line(mark: u32, out: &mut Vec<u8>) -> Result<(), AllocError>
+    ensures { Appends out.old out.new result (mark_line mark) }
 {
-    write_line_number(number, out)?;
     append_bytes(b"mark ", out)?;
     write_mark(mark, out)?;
     append_bytes(b"\n", out)
+}
+
+// Appends a socket's new mark.
+fn write_new_mark(number: u32, mark: u32, out: &mut Vec<u8>) -> Result<(), AllocError>
+    ensures { Appends out.old out.new result (numbered number (mark_line mark)) }
+{
+    write_decimal(u64::from(number), out)?;
+    append_bytes(b": ", out)?;
+    write_mark_line(mark, out)
 }
 
 // Appends a socket's new mark, in the room that is there.
@@ -37,7 +44,7 @@ fn put_mark(number: u32, mark: u32, out: &mut Vec<u8>)
     requires room { vec_len out.old + answer_room ≤ vec_capacity out.old }
     ensures { out.new.items ≡ out.old.items ++ numbered number (mark_line mark) }
 {
-    let _ = write_mark_line(number, mark, out);
+    let _ = write_new_mark(number, mark, out);
 }
 
 // What is watched once the socket of this name is closed.
