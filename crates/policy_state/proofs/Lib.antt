@@ -32,3 +32,4 @@ pub mod CountsAfter
 pub mod CountsLess
 pub mod AcceptLemmas
 pub mod TalliesTurned
+pub mod UserTables

@@ -85,8 +85,11 @@ module _ (s : StateView) (formed : IsWellFormed s) (net : ℕ) where
   changed-by : (f g : Network → Network) → ((n : Network) → Has s.networks n → f n ≡ g n) → record s { networks = stored_with_net net f s.networks } ≡ with_net net g s
   changed-by f g alike = ap (λ ns. record s { networks = ns }) (first-is-each net f g s.networks (ids-distinct s formed) alike)
 
+  pub nets-alike : (f : Network → Network) → stored_with_net net f s.networks ≡ with_change net f s.networks
+  nets-alike f = first-is-each net f f s.networks (ids-distinct s formed) (λ n there. refl)
+
   pub changed-alike : (f : Network → Network) → record s { networks = stored_with_net net f s.networks } ≡ with_net net f s
-  changed-alike f = changed-by f f (λ n there. refl)
+  changed-alike f = ap (λ ns. record s { networks = ns }) (nets-alike f)
 
   pub changed-link : (link : ℕ) → find_link link s.networks ≡ None → record s { networks = stored_with_net net (stored.with_link link) s.networks } ≡ with_net net (with_link link) s
   changed-link link free = changed-by (stored.with_link link) (with_link link) (λ n there. linked link n (lacks link s.networks free n there))

@@ -7,7 +7,7 @@ use prefixes::Route;
 use uid_ranges::{Uid, UidRange};
 
 /// What a command that was accepted changes, with what was found for it.
-#[derive(Clone, Copy, Debug)]
+#[derive(Clone, Copy)]
 pub enum Change<'a> {
     /// The state stays.
     Nothing,

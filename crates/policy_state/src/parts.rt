@@ -27,7 +27,8 @@ pub struct Parts {
 impl Parts {
     // The same parts.
     pub(crate) fn copy(&self) -> Result<Parts, AllocError>
-        ensures { IfOk result (λ parts. view_of parts ≡ view_of self.now) }
+        ensures view { IfOk result (λ parts. view_of parts ≡ view_of self.now) }
+        ensures tallies { IfOk result (λ parts. parts.tallies ≡ self.now.tallies) }
     {
         Ok(Parts {
             alloc: self.alloc,
