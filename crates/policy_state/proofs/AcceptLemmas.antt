@@ -1,10 +1,11 @@
 -- What the looks at networks find.
-use Rattle.std.proofs.Common.{◌≡◌, ◌∙◌, ◌≤◌, ◌+◌, ◌==◌, ℕ, suc, Bool, true, false, not, List, [], ◌∷◌, Option, Some, None, length, map, refl, sym, ap, ap₂, subst, inl, inr, arith}
+use Rattle.std.proofs.Common.{◌≡◌, ◌∙◌, ◌≤◌, ◌+◌, ◌==◌, ℕ, suc, Bool, true, false, not, List, [], ◌∷◌, ◌++◌, Option, Some, None, length, map, refl, sym, ap, ap₂, subst, inl, inr, arith}
 use Rattle.std.specs.Prelude.{◌&&◌, ◌||◌, find, sum_by, if◌then◌else◌}
 use Rattle.std.specs.List.{list_any, list_all, AllByRecursion}
 use Rattle.std.specs.Option.{option_map}
 use Rattle.std.proofs.lemmas.Bool.{cases_Bool, false≢true, and_parts, not-true, eqb-true, eq-eqb}
 use Rattle.std.proofs.lemmas.List.Sums.{sum_by-cons}
+use Rattle.std.proofs.lemmas.Option.{none-some}
 use Rattle.list_lemmas.specs.Pairwise.{pairwise}
 use Rattle.list_lemmas.proofs.Numbers.{unlike-sym}
 use Rattle.network_store.specs.Kin.{kin_meet}
@@ -16,7 +17,7 @@ use Rattle.uid_ranges.specs.Ranks.{users_meet_at}
 use Rattle.uid_ranges.specs.declared.range.UidRange.{UidRange}
 use Rattle.policy_state.specs.Accept.{takes}
 use Rattle.policy_state.specs.Good.{IsNetwork, IsWellFormed, LeadsOut, differ}
-use Rattle.policy_state.specs.Step.{any_meet_at, with_net, with_link}
+use Rattle.policy_state.specs.Step.{Reason, any_meet_at, first_that_holds, with_net, with_link}
 use Rattle.policy_state.specs.View.{Kind, Local, Physical, Virtual, Network, StateView}
 use Rattle.policy_state.specs.declared.accept_ranges.RangeKind.{RangeKind}
 use Rattle.policy_state.specs.declared.accept_ranges.RangeKind.TheVariants.{Users, Apps}
@@ -24,6 +25,14 @@ use Rattle.policy_state.proofs.GoodStates.{same-ids}
 use Rattle.policy_state.proofs.GoodFacts.{found-by_link}
 use Rattle.policy_state.proofs.NetworkParts.{id-found, physical-class, virtual-class}
 use Rattle.policy_state.proofs.Owners.{Has, find-has}
+
+-- where none of some reasons holds and one after them does, it is the first
+pub first-last : (rs : List Reason) (r : Reason) → first_that_holds rs ≡ None → r.holds ≡ true → first_that_holds (rs ++ r ∷ []) ≡ Some r.code
+first-last [] r none here = rw here refl
+first-last (q ∷ rs) r none here = elim (cases_Bool q.holds) as (λ _. first_that_holds ((q ∷ rs) ++ r ∷ []) ≡ Some r.code) [
+  | inl e ↦ absurd (none-some q.code (sym (rw e at none)))
+  | inr e ↦ rw e (first-last rs r (rw e at none) here)
+]
 
 -- the network that has the link is found by it
 pub owner-at : (s : StateView) → IsWellFormed s → (net : ℕ) (n : Network) (link : ℕ) → find_id net s.networks ≡ Some n → has_link n link ≡ true → option_map (λ (m : Network). m.id) (find_link link s.networks) ≡ Some net

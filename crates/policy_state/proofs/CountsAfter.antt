@@ -24,7 +24,7 @@ use Rattle.policy_state.specs.Counts.{rule_count}
 use Rattle.policy_state.specs.Good.{IsWellFormed, is_default_there}
 use Rattle.policy_state.specs.Rows.{is_default, links_of, default_among, default_of}
 use Rattle.policy_state.specs.Step.{with_net, with_new_net, with_link, with_ranges, with_permission, asking_for, kind_with, without_link, without_ranges, kind_without}
-use Rattle.policy_state.specs.Tallies.{alone, per_link, per_range, own, own_rules, virtuals, default_links, rules_in_all, tallied, tallies_of}
+use Rattle.policy_state.specs.Tallies.{alone, per_link, per_link_asking, per_range, own, own_rules, virtuals, default_links, rules_in_all, tallied, tallies_of}
 use Rattle.policy_state.specs.declared.count.Tallies.{Tallies}
 use Rattle.policy_state.specs.View.{Kind, Local, Physical, Virtual, Ranked, Network, TetherPair, StateView}
 use Rattle.policy_state.proofs.Members.{find-none, find-passes}
@@ -44,6 +44,11 @@ rules-tallied s keyed = count-is s ∙ count-tallied s keyed
 
 with_link-new : (n : Network) (link : ℕ) → has_link n link ≡ false → with_link link n ≡ record n { interfaces = n.interfaces ++ link ∷ [] }
 with_link-new n link absent = rw absent refl
+
+pub asking-physical : (permission : Permission) (k : Kind) → is_physical k ≡ true → per_link (asking_for permission k) ≡ per_link_asking permission
+asking-physical permission Local h = absurd (false≢true h)
+asking-physical permission (Physical old apps) h = refl
+asking-physical permission (Virtual secure users) h = absurd (false≢true h)
 
 pub asking-other : (permission : Permission) (k : Kind) → is_physical k ≡ false → asking_for permission k ≡ k
 asking-other permission Local h = refl

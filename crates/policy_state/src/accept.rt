@@ -9,6 +9,7 @@ ghost use Rattle.policy_state.specs.Step as step;
 use crate::accept_ranges::RangeKind;
 use crate::change::Change;
 use crate::parts::Parts;
+use crate::state::State;
 use commands::Command;
 use net_names::Code;
 
@@ -85,5 +86,15 @@ impl Parts {
             return Err(Code::NoSpace);
         }
         Ok(change)
+    }
+}
+
+impl State {
+    /// Why the command is refused, or none where it is accepted.
+    pub fn refusal_of(&self, command: &Command) -> Option<Code>
+        ensures { result ≡ step.refusal self.now command.now }
+    {
+        let _parts = &self.parts;
+        self.parts.accept(command).err()
     }
 }

@@ -18,6 +18,7 @@ ghost use Rattle.uid_ranges.specs.declared.range.UidRange.{UidRange};
 use crate::change::Change;
 use crate::parts::Parts;
 use crate::picked::{default_network, is_default};
+use crate::state::State;
 use fwmark::Permission;
 use network_store::{StoredKind, StoredNetwork};
 
@@ -249,4 +250,11 @@ impl Parts {
             Change::PairGoes { .. } => false,
         }
     }
+}
+
+/// How many rules the kernel has in each family for the state, beside its own. Takes no memory and goes over nothing.
+pub fn rule_count(state: &State) -> u64
+    ensures { result ≡ rule_count state.now }
+{
+    state.parts.rule_count()
 }

@@ -56,7 +56,8 @@ impl Parts {
 
     // The same parts.
     pub(crate) fn copy(&self) -> Result<Parts, AllocError>
-        ensures { IfOk result (λ parts. view_of parts ≡ view_of self.now) }
+        ensures view { IfOk result (λ parts. view_of parts ≡ view_of self.now) }
+        ensures tallies { IfOk result (λ parts. parts.tallies ≡ self.now.tallies) }
     {
         let (links, networks) = self.copy_of_networks()?;
         let (permissions, protectable) = self.copy_of_users()?;

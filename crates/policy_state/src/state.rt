@@ -25,14 +25,14 @@ pub struct State {
 
 impl Model for State {
     ghost use Rattle.policy_state.specs.Good.{IsGood};
-    ghost use Rattle.policy_state.specs.Parts.{view_of};
+    ghost use Rattle.policy_state.specs.Parts.{view_of, IsTallied};
     ghost use Rattle.policy_state.specs.View.{StateView};
 
     ghost Value = { StateView };
 
     ghost view = { λ s. view_of s.parts };
 
-    ghost invariant = { λ s. IsGood (view_of s.parts) };
+    ghost invariant = { λ s. IsGood (view_of s.parts) × IsTallied s.parts };
 }
 
 impl State {
