@@ -9,8 +9,6 @@ mod accept_ranges;
 mod accept_routes;
 mod accept_users;
 mod change;
-mod count;
-mod commit;
 mod commit;
 mod count;
 mod fault;

@@ -26,8 +26,7 @@ use Rattle.policy_state.specs.Good.{IsWellFormed, is_default_there}
 use Rattle.policy_state.specs.Rows.{is_default, default_among, default_of, links_of, needs_of, items_in, items_at, items, nothing, range_item, pair_item}
 use Rattle.policy_state.specs.Step.{with_net, with_link, asking_for, with_permission}
 use Rattle.policy_state.specs.Table.{rows, rule_of, rules_in, in_order, table_by_rows, rule_table}
-use Rattle.policy_state.specs.View.{StateView}
-use Rattle.link_table.specs.declared.link.Link.{Link}
+use Rattle.policy_state.specs.View.{StateView, Link}
 use Rattle.policy_state.specs.declared.tether.TetherPair.{TetherPair}
 use Rattle.policy_state.specs.declared.users.UserPermission.{UserPermission}
 use Rattle.policy_state.specs.declared.row.Item.{Item}

@@ -4,7 +4,7 @@
 
 mod difference;
 mod laws;
-mod leaving;
+mod going_routes;
 mod requests;
 mod routes;
 mod rows;

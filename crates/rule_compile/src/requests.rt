@@ -7,7 +7,7 @@ ghost use Rattle.policy_state.specs.Table.{rule_table};
 ghost use Rattle.rule_compile.specs.Asked.{asked};
 
 use crate::difference::{beyond, middles};
-use crate::leaving::{LeavingRoutes, interface_leaves, network_leaves};
+use crate::going_routes::{LeavingRoutes, interface_leaves, network_leaves};
 use crate::routes::{route_that_comes, route_that_goes};
 use crate::table::rules;
 use kernel_model::{Plan, Request};

@@ -2,7 +2,7 @@ use Rattle.std.proofs.Common.{rules}
 use Rattle.std.proofs.lemmas.List.Sorted.{answers_always, IsNonDecreasingBy-from_sort}
 use Rattle.std.proofs.lemmas.Result.{on_ok_weaker}
 use Rattle.rule_compile.proofs.ByLength.{length_of, sorted-by_length}
-use Rattle.rule_compile.proofs.leaving.put_shortest_first.Goals as goal
+use Rattle.rule_compile.proofs.going_routes.put_shortest_first.Goals as goal
 
 pub returns : goal.returns
 returns c =

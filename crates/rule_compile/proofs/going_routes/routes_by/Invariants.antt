@@ -1,6 +1,6 @@
 use Rattle.std.proofs.Common.{◌≡◌, ◌++◌}
 use Rattle.networks.specs.Network.{routes_by}
-use Rattle.rule_compile.proofs.leaving.routes_by.Given as goal
+use Rattle.rule_compile.proofs.going_routes.routes_by.Given as goal
 
 -- what was found so far and what is left are all routes of the link
 abbrev pub invariant-loop-route : goal.invariant-loop-route
