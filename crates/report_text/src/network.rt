@@ -185,7 +185,7 @@ pub fn write_network(
     append_byte(b' ', out)?;
     write_kind(&network.kind, is_default(state, network.id), out)?;
     append_bytes(b" interfaces ", out)?;
-    write_names(state, &network.interfaces, out)
+    write_names(state, network.interfaces.as_slice(), out)
 }
 
 fn write_line(state: &State, network: &StoredNetwork, out: &mut Vec<u8>) -> Result<(), AllocError>
