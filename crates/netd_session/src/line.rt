@@ -1,6 +1,5 @@
 ghost use Rattle.std.specs.Prelude.{◌≡◌, ◌+◌, ◌++◌, ◌∷◌, ◌<◌, ◌≤◌, [], None, OnOk, vec_len, vec_capacity};
 ghost use Rattle.net_io.specs.Streams.{CanCount};
-ghost use Rattle.kernel_model.specs.View.{KernelView};
 ghost use Rattle.net_control.specs.Moments.{SendsByPolicy};
 ghost use Rattle.net_control.specs.View.{IsKept};
 
@@ -28,6 +27,17 @@ pub(crate) fn put_turn(turns: &mut Vec<Turn>, turn: Turn)
     ensures { turns.new.items ≡ turns.old.items ++ turn ∷ [] }
 {
     let _ = turns.push(turn);
+}
+
+// Takes the room for a turn and its text.
+pub(crate) fn make_room(turns: &mut Vec<Turn>, answer: &mut Vec<u8>) -> Result<(), AllocError>
+    ensures turns { turns.new.items ≡ turns.old.items }
+    ensures answer { answer.new.items ≡ answer.old.items }
+    ensures turn_room { OnOk result (vec_len turns.new < vec_capacity turns.new) }
+    ensures answer_room { OnOk result (vec_len answer.new + 300 ≤ vec_capacity answer.new) }
+{
+    turns.reserve(1)?;
+    answer.reserve(ANSWER_ROOM)
 }
 
 /// What a session keeps from line to line.
@@ -72,19 +82,6 @@ impl Talk {
         self.turns
     }
 
-    // Takes the room for a turn and its text.
-    pub(crate) fn make_room(&mut self) -> Result<(), AllocError>
-        ensures stays { (k : KernelView) → stands self.new k ≡ stands self.old k }
-        ensures turns { self.new.turns.items ≡ self.old.turns.items }
-        ensures answer { self.new.answer.items ≡ self.old.answer.items }
-        ensures turn_room { OnOk result (vec_len self.new.turns < vec_capacity self.new.turns) }
-        ensures answer_room { OnOk result
-            (vec_len self.new.answer + 300 ≤ vec_capacity self.new.answer) }
-    {
-        self.turns.reserve(1)?;
-        self.answer.reserve(ANSWER_ROOM)
-    }
-
     // The packet that is watched, as its socket stands.
     fn watched_packet(&self) -> Option<Packet>
         ensures { IsWatched self.now.sockets self.now.watch result }
@@ -117,7 +114,7 @@ impl Talk {
         ensures kept { IsKept self.new.controller (K.seen kernel.new) }
         ensures sends { SendsByPolicy self.new.controller (K.seen kernel.new) }
     {
-        self.make_room()?;
+        make_room(&mut self.turns, &mut self.answer)?;
         let packet = self.watched_packet();
         let answer = apply_watched(
             self.alloc,

@@ -6,19 +6,19 @@ ghost use Rattle.report_text.specs.NetworkTexts.{networks_text};
 ghost use Rattle.report_text.specs.RouteTexts.{routes_text};
 ghost use Rattle.report_text.specs.RuleTexts.{rules_text};
 ghost use Rattle.report_text.specs.SocketTexts.{sockets_text};
-ghost use Rattle.turn_text.specs.Texts.{answer_text, numbered};
+ghost use Rattle.turn_text.specs.Texts.{IsCounted, answer_text, numbered};
 ghost use Rattle.netd_session.specs.Lines.{Answers};
 ghost use Rattle.netd_session.specs.Talks.{stands};
 ghost use Rattle.netd_session.specs.Turns.{turn_of};
 
 use crate::answer::{tell_networks, tell_rules, tell_sockets, tell_table};
-use crate::line::Talk;
+use crate::line::{Talk, make_room};
 use crate::turn::{Said, Turn};
 use kernel_model::Kernel;
 use prefixes::Family;
 use script_reader::ShowLine;
 use std::alloc::AllocError;
-use turn_text::{Answer, write_answer};
+use turn_text::{Answer, put_answer};
 
 // Questions change nothing: each has one turn and one text.
 impl Talk {
@@ -47,6 +47,7 @@ impl Talk {
         kernel: &K,
     ) -> Result<(), AllocError>
         requires empty { self.old.answer.items ≡ [] }
+        requires counted { IsCounted answer }
         ensures ok { OnOk result
             (self.new.turns.items ≡ self.old.turns.items
             ++ turn_of number (Said.Answered answer) (stands self.old (K.seen kernel.now)) ∷ []) }
@@ -55,8 +56,10 @@ impl Talk {
         ensures err { OnErr result (self.new.turns.items ≡ self.old.turns.items) }
         ensures stays { stands self.new (K.seen kernel.now) ≡ stands self.old (K.seen kernel.now) }
     {
-        write_answer(number, &answer, &mut self.answer)?;
-        self.note(number, Said::Answered(answer), kernel)
+        make_room(&mut self.turns, &mut self.answer)?;
+        put_answer(number, &answer, &mut self.answer);
+        self.put_said(number, Said::Answered(answer), kernel);
+        Ok(())
     }
 
     fn show_sockets<K: Kernel>(&mut self, number: u32, kernel: &K) -> Result<(), AllocError>

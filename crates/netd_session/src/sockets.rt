@@ -9,7 +9,7 @@ ghost use Rattle.netd_session.specs.Talks.{stands};
 ghost use Rattle.netd_session.specs.Turns.{turn_of};
 ghost use Rattle.netd_session.specs.Watches.{watch_without};
 
-use crate::line::{Talk, put_turn};
+use crate::line::{Talk, make_room, put_turn};
 use crate::turn::{Said, Turn};
 use crate::watch::Watch;
 use kernel_model::Kernel;
@@ -66,7 +66,7 @@ fn without(watch: Option<Watch>, name: &Name) -> Option<Watch>
 // Lines about sockets ask the kernel nothing. The room for a turn and its text is taken before a socket changes.
 impl Talk {
     // Puts a turn after which the kernel is as it is now, in the room that was taken.
-    fn put_said<K: Kernel>(&mut self, number: u32, said: Said, kernel: &K)
+    pub(crate) fn put_said<K: Kernel>(&mut self, number: u32, said: Said, kernel: &K)
         requires { vec_len self.old.turns < vec_capacity self.old.turns }
         ensures turns { self.new.turns.items ≡ self.old.turns.items
             ++ turn_of number said (stands self.old (K.seen kernel.now)) ∷ [] }
@@ -227,7 +227,7 @@ impl Talk {
             self.new.turns.items self.new.answer.items }
         ensures controller { self.new.controller ≡ self.old.controller }
     {
-        self.make_room()?;
+        make_room(&mut self.turns, &mut self.answer)?;
         match call {
             SocketLine::Open { name, uid } => self.open_socket(number, *name, *uid, kernel),
             SocketLine::Accept { name, uid, link } => {

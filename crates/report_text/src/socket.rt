@@ -1,6 +1,6 @@
 ghost use Rattle.std.specs.Prelude.{◌≡◌, ◌<◌, Some, flat_map, length, slice_get};
 ghost use Rattle.number_text.specs.Appends.{Appends};
-ghost use Rattle.report_text.specs.SocketTexts.{bound_text, socket_line, sockets_text};
+ghost use Rattle.report_text.specs.SocketTexts.{bound_text, line_text, socket_line, sockets_text, user_text};
 
 use crate::link::write_link;
 use mark_server::{Socket, SocketTable};
@@ -8,6 +8,7 @@ use net_names::Name;
 use number_text::{append_byte, append_bytes, write_decimal};
 use policy_state::State;
 use std::alloc::AllocError;
+use uid_ranges::Uid;
 use word_text::write_mark;
 
 fn write_bound(state: &State, bound: Option<u16>, out: &mut Vec<u8>) -> Result<(), AllocError>
@@ -19,18 +20,24 @@ fn write_bound(state: &State, bound: Option<u16>, out: &mut Vec<u8>) -> Result<(
     }
 }
 
-fn write_line(
-    state: &State,
-    named: &(Name, Socket),
-    out: &mut Vec<u8>,
-) -> Result<(), AllocError>
-    ensures { Appends out.old out.new result (socket_line state.now named.now) }
+fn write_user(name: &Name, uid: Uid, out: &mut Vec<u8>) -> Result<(), AllocError>
+    ensures { Appends out.old out.new result (user_text name.now uid) }
 {
-    let (name, socket) = *named;
     append_bytes(b"  ", out)?;
     append_bytes(name.as_bytes(), out)?;
     append_bytes(b" uid ", out)?;
-    write_decimal(u64::from(socket.uid.number()), out)?;
+    write_decimal(u64::from(uid.number()), out)
+}
+
+fn write_line(
+    state: &State,
+    name: &Name,
+    socket: &Socket,
+    out: &mut Vec<u8>,
+) -> Result<(), AllocError>
+    ensures { Appends out.old out.new result (line_text state.now name.now socket.now) }
+{
+    write_user(name, socket.uid, out)?;
     append_bytes(b" mark ", out)?;
     write_mark(socket.mark, out)?;
     append_bytes(b" bound ", out)?;
@@ -53,8 +60,8 @@ fn write_lines(
     ensures { Appends out.old out.new result (flat_map (socket_line state.now) sockets.now) }
 {
     for place in 0..sockets.len() {
-        let named = socket_at(sockets, place);
-        write_line(state, &named, out)?;
+        let (name, socket) = socket_at(sockets, place);
+        write_line(state, &name, &socket, out)?;
     }
     Ok(())
 }

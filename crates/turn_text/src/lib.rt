@@ -7,6 +7,6 @@ mod texts;
 
 pub use answer::Answer;
 pub use texts::{
-    put_answer, put_start_halted, put_start_refused, write_answer, write_bad_line,
-    write_line_number, write_refused,
+    put_answer, put_start_halted, put_start_refused, write_bad_line, write_line_number,
+    write_refused,
 };

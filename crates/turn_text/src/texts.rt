@@ -46,8 +46,7 @@ pub fn write_line_number(number: u32, out: &mut Vec<u8>) -> Result<(), AllocErro
     append_bytes(b": ", out)
 }
 
-/// Appends the answer to a line.
-pub fn write_answer(number: u32, answer: &Answer, out: &mut Vec<u8>) -> Result<(), AllocError>
+fn write_answer(number: u32, answer: &Answer, out: &mut Vec<u8>) -> Result<(), AllocError>
     ensures { Appends out.old out.new result (numbered number (answer_text answer.now)) }
 {
     write_decimal(u64::from(number), out)?;

@@ -23,19 +23,19 @@ more_noted n state changes i change at =
 pub put_request-requires : goal.put_request-requires
 put_request-requires g c =
     let within : c.loop-place.place < length (changes_since c.args.watched.now.packet c.args.watched.now.since (g.K.Kernel.seen c.args.watched.now.inner.now).journal) =
-    slice_get_within _ c.loop-place.place c.change_at.result c.change_at.ensures in
+    slice_get_within _ c.loop-place.place c.change_at-request.result c.change_at-request.ensures in
     omega (arith, within, c.loop-place.invariant.room)
 
 pub loop-place-preserved : goal.loop-place-preserved
 loop-place-preserved g c =
     let changes : List (ℕ × Verdict) = changes_since c.args.watched.now.packet c.args.watched.now.since (g.K.Kernel.seen c.args.watched.now.inner.now).journal in
     let before = c.args.out.now.items in
-    let said : List ℕ = request_text c.args.number c.args.state.now c.change_at.result.0 c.change_at.result.1 in
+    let said : List ℕ = request_text c.args.number c.args.state.now c.change_at-request.result.0 c.change_at-request.result.1 in
     record {
       text = c.put_request.ensures.text
           ∙ (ap (λ (xs : List ℕ). xs ++ said) c.loop-place.invariant.text
           ∙ (append_assoc before (noted_text c.args.number c.args.state.now (take c.loop-place.place changes)) said
-          ∙ ap (λ (xs : List ℕ). before ++ xs) (sym (more_noted c.args.number c.args.state.now changes c.loop-place.place c.change_at.result c.change_at.ensures))));
+          ∙ ap (λ (xs : List ℕ). before ++ xs) (sym (more_noted c.args.number c.args.state.now changes c.loop-place.place c.change_at-request.result c.change_at-request.ensures))));
       room = omega (arith, c.loop-place.invariant.room, c.put_request.ensures.len, c.put_request.ensures.capacity);
     }
 
