@@ -14,9 +14,13 @@ pub mod FirstState
 pub mod Lists
 pub mod LinkLists
 pub mod Accepted
+pub mod Members
+pub mod NetworkParts
+pub mod PairLists
+pub mod UserLists
 pub mod NetworkChanges
-pub mod Puts
+pub mod NetworkLists
 pub mod RouteLists
+pub mod NetworkSteps
 pub mod Goodness
-pub mod CountChanges
-pub mod Limits
+pub mod Turns

@@ -5,5 +5,7 @@ pub mod Table
 pub mod Counts
 pub mod Good
 pub mod Step
-pub mod Touched
-pub mod TouchedCounts
+pub mod Change
+pub mod UserLists
+pub mod Users
+pub mod Room

@@ -1,22 +1,22 @@
 ghost use Rattle.std.specs.Prelude.{◌≡◌, IfOk};
 ghost use Rattle.policy_state.specs.Parts.{view_of};
 
-use crate::link::Link;
 use crate::tether::TetherPair;
-use crate::users::UserPermission;
-use networks::Networks;
+use crate::users::{PermissionTable, ProtectList};
+use link_table::LinkTable;
+use network_store::StoredNetworks;
 use std::alloc::{AllocError, Global};
-use uid_ranges::{RangeList, Uid};
+use uid_ranges::UidRange;
 
 /// What a state is made of, before it is known that all of it fits together.
-#[derive(Debug, Drop)]
+#[derive(Drop)]
 pub struct Parts {
     pub(crate) alloc: Global,
-    pub(crate) links: Vec<Link>,
-    pub(crate) networks: Networks,
-    pub(crate) permissions: Vec<UserPermission>,
-    pub(crate) protectable: Vec<Uid>,
-    pub(crate) lockdown: RangeList,
+    pub(crate) links: LinkTable,
+    pub(crate) networks: StoredNetworks,
+    pub(crate) permissions: PermissionTable,
+    pub(crate) protectable: ProtectList,
+    pub(crate) lockdown: Vec<UidRange>,
     pub(crate) pairs: Vec<TetherPair>,
     pub(crate) default: Option<u16>,
 }
@@ -28,11 +28,11 @@ impl Parts {
     {
         Ok(Parts {
             alloc: self.alloc,
-            links: Vec::from_slice(self.alloc, self.links.as_slice())?,
+            links: self.links.copy()?,
             networks: self.networks.copy()?,
-            permissions: Vec::from_slice(self.alloc, self.permissions.as_slice())?,
-            protectable: Vec::from_slice(self.alloc, self.protectable.as_slice())?,
-            lockdown: self.lockdown.clone()?,
+            permissions: self.permissions.copy()?,
+            protectable: self.protectable.copy()?,
+            lockdown: Vec::from_slice(self.alloc, self.lockdown.as_slice())?,
             pairs: Vec::from_slice(self.alloc, self.pairs.as_slice())?,
             default: self.default,
         })

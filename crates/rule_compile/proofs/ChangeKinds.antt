@@ -26,7 +26,7 @@ use Rattle.policy_state.specs.Rows.{is_default, default_among, default_of, links
 use Rattle.policy_state.specs.Step.{with_net, with_link, asking_for, with_permission}
 use Rattle.policy_state.specs.Table.{rows, rule_of, rules_in, in_order, table_by_rows, rule_table}
 use Rattle.policy_state.specs.View.{StateView}
-use Rattle.policy_state.specs.declared.link.Link.{Link}
+use Rattle.link_table.specs.declared.link.Link.{Link}
 use Rattle.policy_state.specs.declared.tether.TetherPair.{TetherPair}
 use Rattle.policy_state.specs.declared.row.Item.{Item}
 use Rattle.policy_state.specs.declared.row.NetworkPart.{NetworkPart}

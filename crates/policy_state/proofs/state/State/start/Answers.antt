@@ -9,12 +9,12 @@ pub invariant_of-result : goal.invariant_of-result
 invariant_of-result c =
     let is : view_of (record {
       alloc = c.args.alloc;
-      links = c.push.new.self;
-      networks = c.in_ok-start.field-0;
-      permissions = c.new.result;
-      protectable = c.new-2.result;
-      lockdown = c.empty.result;
-      pairs = c.new-3.result;
+      links = c.in_ok-start.field-0;
+      networks = c.in_ok-start-2.field-0;
+      permissions = c.empty.result;
+      protectable = c.empty-2.result;
+      lockdown = c.new.result;
+      pairs = c.new-2.result;
       default = None;
     }) ≡ start = search rules in
     subst IsGood (sym is) good-start
