@@ -1,12 +1,9 @@
 ghost use Rattle.std.specs.Prelude.{◌≡◌, true, false};
 ghost use Rattle.mark_server.specs.Users.{holder, vpn_of, is_held, at_lowest, free_at, app_net, id_of, is_vpn_id};
-ghost use Rattle.network_store.specs.Stored.{kind_of};
 ghost use Rattle.network_store.specs.Store.{nets_of};
-ghost use Rattle.networks.specs.Kinds.{is_free};
 ghost use Rattle.policy_state.specs.Good.{AreNetworks, IsGood};
 
-use fwmark::Permission;
-use network_store::{StoredKind, StoredNetworks};
+use network_store::StoredNetworks;
 use policy_state::State;
 use uid_ranges::{LAST_RANK, Uid};
 
@@ -48,16 +45,6 @@ pub(crate) fn vpn_of(state: &State, uid: Uid) -> Option<u16>
     Some(network.id)
 }
 
-// Whether it is physical and asks for no permission.
-fn is_free(kind: &StoredKind) -> bool
-    ensures { result ≡ is_free (kind_of kind.now) }
-{
-    match kind {
-        StoredKind::Physical { permission, .. } => matches!(permission, Permission::Nothing),
-        StoredKind::Local | StoredKind::Virtual { .. } => false,
-    }
-}
-
 // The physical network without a permission that the app prefers at this rank.
 fn preferred_at(networks: &StoredNetworks, rank: u8, uid: Uid) -> Option<u16>
     requires { AreNetworks (nets_of networks.now) }
@@ -66,7 +53,7 @@ fn preferred_at(networks: &StoredNetworks, rank: u8, uid: Uid) -> Option<u16>
     let Some(network) = networks.preferred_at(rank, uid) else {
         return None;
     };
-    if !is_free(&network.kind) {
+    if !network.kind.is_free() {
         return None;
     }
     Some(network.id)
