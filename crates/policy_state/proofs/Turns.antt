@@ -64,7 +64,7 @@ lacks link (m ∷ ms) none n there = elim (cases_Bool (has_link m link)) as (λ 
 ]
 
 linked : (link : ℕ) (n : Network) → has_link n link ≡ false → stored.with_link link n ≡ with_link link n
-linked link n no = rw no refl
+linked link n lacking = rw lacking refl
 
 permitted : (permission : Permission) (k : Kind) → stored.kind_needing permission k ≡ asking_for permission k
 permitted permission kind.Local = refl
