@@ -1,13 +1,12 @@
 -- A command that is accepted leads from a good state to a good one.
-use Rattle.std.proofs.Common.{◌≡◌, ◌∙◌, ◌≤◌, ◌<◌, ◌==◌, ◌&&◌, ◌||◌, ◌+◌, ℕ, Bool, true, false, not, Option, Some, None, List, [], ◌∷◌, ◌++◌, length, map, filter, refl, sym, ap, subst, inl, inr, arith, nat_le, is_some, is_none}
+use Rattle.std.proofs.Common.{◌≡◌, ◌∙◌, ◌≤◌, ◌<◌, ◌==◌, ◌&&◌, ◌||◌, ◌+◌, ℕ, Bool, true, false, not, Option, Some, None, List, [], ◌∷◌, ◌++◌, length, filter, refl, sym, ap, subst, inl, inr, arith, nat_le, is_some}
 use Rattle.std.specs.Prelude.{nat_lt}
-use Rattle.std.specs.List.{list_all, list_any}
+use Rattle.std.specs.List.{list_all}
 use Rattle.std.specs.Str.{bytes_eq}
-use Rattle.std.proofs.lemmas.Bool.{cases_Bool, false≢true, and_from, or_left, or_parts, both_ways, ltb-false, leb-false, le-leb, lt-leb, not-false, not_from_false, eqb-true, eq-eqb, false_from_ne_true, true_from_ne_false}
+use Rattle.std.proofs.lemmas.Bool.{cases_Bool, false≢true, and_from, or_left, or_parts, both_ways, ltb-false, leb-false, le-leb, not-false, not_from_false, eqb-true, eq-eqb, false_from_ne_true}
 use Rattle.std.proofs.lemmas.List.{length-append, length-map}
 use Rattle.std.proofs.lemmas.List.Folds.{list_any-append, list_all-append}
 use Rattle.list_lemmas.proofs.Anys.{length-filter-le}
-use Rattle.list_lemmas.proofs.Numbers.{eqb-turned}
 use Rattle.list_lemmas.proofs.Options.{some_there}
 use Rattle.list_lemmas.proofs.Pairs.{list_all-filter}
 use Rattle.fib_table.specs.Table.{has_key}
@@ -16,13 +15,13 @@ use Rattle.net_names.specs.declared.code.Code.TheVariants as code
 use Rattle.networks.specs.Kinds.{class_of, ranges_of, is_local}
 use Rattle.networks.specs.Kinds as kinds
 use Rattle.networks.specs.Lists.{find_id, find_link}
-use Rattle.networks.specs.Network.{has_link, local_id, routes_by, is_keyed_by}
+use Rattle.networks.specs.Network.{has_link, routes_by, is_keyed_by}
 use Rattle.networks.specs.declared.kind.Kind.TheVariants as kind
 use Rattle.prefixes.specs.declared.prefix.Prefix.{Prefix}
 use Rattle.prefixes.specs.declared.route.Route.{Route}
 use Rattle.rule_match.specs.Packet.{lo}
 use Rattle.uid_ranges.specs.Ranges.{AreDisjoint, has, self_meets, without}
-use Rattle.uid_ranges.specs.Ranks.{last_rank, all_at, users_meet}
+use Rattle.uid_ranges.specs.Ranks.{last_rank, users_meet}
 use Rattle.uid_ranges.specs.declared.range.Uid.{Uid}
 use Rattle.uid_ranges.specs.declared.range.UidRange.{UidRange}
 use Rattle.uid_ranges.proofs.Disjoint.{AreDisjoint-append, AreDisjoint-filter}
@@ -32,21 +31,21 @@ use Rattle.commands.specs.declared.command.Command.{Command}
 use Rattle.commands.specs.declared.command.Command.TheVariants as command
 use Rattle.commands.specs.declared.command.Way.{Way}
 use Rattle.policy_state.specs.Counts.{rule_count}
-use Rattle.policy_state.specs.Good.{most_links, most_networks, most_interfaces, most_routes, most_ranges, most_rules, most_lockdown_ranges, most_pairs, most_users, is_by_link, is_index, is_local_network, is_output, is_default_there, AreLinks, AreUsers, ArePairs, IsNetwork, IsWellFormed, IsGood}
-use Rattle.policy_state.specs.Step.{any_meet_at, because, changed, changed_by_link, first_that_holds, has_pair, has_permission, has_too_many_ranges, has_too_many_rules, is_full, is_in, is_in_any, is_in_local, is_input, is_local_net, is_net_unknown, is_of_user, is_pair, is_physical, is_protectable, is_special, is_user, is_way_of_other_family, key_of, of_links, of_net, ranges_come_reasons, ranges_meet, reasons, refusal, route_of, routes_at, table_routes, table_routes_of, with_link, with_net, with_permission, with_permission_of, with_ranges, with_route, without_interface, without_link, without_ranges, without_route}
-use Rattle.policy_state.specs.View.{StateView, Ranked, Link, Network, LinkRoute, TetherPair, UserPermission, Kind, link_named}
+use Rattle.policy_state.specs.Good.{most_links, most_networks, most_interfaces, most_routes, most_ranges, most_rules, most_lockdown_ranges, most_pairs, most_users, is_by_link, is_index, is_local_network, is_output, is_default_there, AreLinks, ArePairs, IsNetwork, IsWellFormed, IsGood}
+use Rattle.policy_state.specs.Step.{any_meet_at, because, changed, changed_by_link, first_that_holds, has_pair, has_too_many_rules, is_full, is_in, is_in_any, is_in_local, is_input, is_local_net, is_net_unknown, is_of_user, is_pair, is_physical, is_protectable, is_special, is_user, is_way_of_other_family, key_of, of_links, of_net, ranges_come_reasons, ranges_meet, reasons, refusal, route_of, routes_at, table_routes, table_routes_of, with_link, with_net, with_permission, with_permission_of, with_ranges, with_route, without_interface, without_link, without_ranges, without_route}
+use Rattle.policy_state.specs.View.{StateView, Link, Network, LinkRoute, TetherPair, UserPermission, Kind, link_named}
 use Rattle.policy_state.proofs.Accepted.{none_holds, first-parts, of_link-at, of_net-at, of_links-at, both_named, BothNamed, changed_by_link-at, changed_by_link-none, changed_by_links-at, is_in-at, is_full-at, is_local_net-at, routes_at-at, table_routes-at, Routed, routed}
 use Rattle.policy_state.proofs.GoodStates.{each-has}
-use Rattle.policy_state.proofs.LinkLists.{links-add, links-remove, index_kept, may_be_interface, may_be_input}
+use Rattle.policy_state.proofs.LinkLists.{links-add, links-remove, index_kept, may_be_interface}
 use Rattle.policy_state.proofs.Members.{all-implied, find-passes}
 use Rattle.policy_state.proofs.NetworkChanges.{MayBecome, formed-keeping, formed-leaving}
 use Rattle.policy_state.proofs.NetworkLists.{formed-more, formed-left}
 use Rattle.policy_state.proofs.NetworkParts.{has-link, id-found, in_none, local-class, physical-class, virtual-class}
 use Rattle.policy_state.proofs.NetworkSteps.{all_routes, few_by, link-left, linked, own_link, permitted, plain, ranges-left, ranges-more, rerouted, stays, unlinked}
 use Rattle.policy_state.proofs.Owners.{Has, any-from, find-has}
-use Rattle.policy_state.proofs.PairLists.{PairParts, pairs-filter, pairs-kept, pairs-push}
+use Rattle.policy_state.proofs.PairLists.{may_be_input, pairs-filter, pairs-kept, pairs-push}
 use Rattle.policy_state.proofs.RouteLists.{network-with_route, network-without_route}
-use Rattle.policy_state.proofs.UserLists.{AreFew, few-filter, few-permission, few-push}
+use Rattle.policy_state.proofs.FewUsers.{AreFew, few-filter, few-permission, few-push}
 
 -- links
 

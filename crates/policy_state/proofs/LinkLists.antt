@@ -13,10 +13,6 @@ use Rattle.list_lemmas.proofs.Alls.{all-push, all-filter}
 use Rattle.list_lemmas.proofs.Anys.{any-map, length-filter-le, filter-others}
 use Rattle.networks.specs.Lists.{are_distinct}
 use Rattle.policy_state.specs.Good.{AreLinks, are_names_distinct, most_links}
-use Rattle.policy_state.specs.View.{loopback_link}
-use Rattle.rule_match.specs.Packet.{lo}
-use Rattle.policy_state.proofs.GoodStates.{each-has}
-use Rattle.policy_state.proofs.Owners.{Has, find-has}
 use Rattle.link_table.specs.declared.link.Link.{Link}
 
 none-either : (p q : Link → Bool) (ls : List Link) → list_any (λ l. p l || q l) ls ≡ false → (list_any p ls ≡ false) × (list_any q ls ≡ false)
@@ -108,17 +104,3 @@ may_be_interface ls name link good not_lo named =
     let behind : find (λ l. bytes_eq l.name name) good.others ≡ Some at.0 = rw first at (subst (λ l. find (λ m. bytes_eq m.name name) l ≡ Some at.0) good.loopback_first at.1.0) in
     let bounds : (2 ≤ at.0.index) × (at.0.index < 65536) = found_all (λ l. (2 ≤ l.index) × (l.index < 65536)) (λ l. bytes_eq l.name name) good.others at.0 good.from_two behind in
     (subst (λ i. 2 ≤ i) at.1.1 bounds.0, found_any (λ l. bytes_eq l.name name) (λ l. l.index == link) ls at.0 at.1.0 (eq-eqb at.0.index link at.1.1))
-
--- and any link but `lo` may be the input of a tether pair
-pub may_be_input : (ls : List Link) (name : List ℕ) (link : ℕ) → AreLinks ls → (link == lo) ≡ false
-    → option_map (λ l. l.index) (find (λ l. bytes_eq l.name name) ls) ≡ Some link → (2 ≤ link) × (list_any (λ l. l.index == link) ls ≡ true)
-may_be_input ls name link good not_lo named =
-    let at = link_at ls name link named in
-    let l : Link = at.0 in
-    let found : find (λ m. bytes_eq m.name name) ls ≡ Some l = at.1.0 in
-    let index : l.index ≡ link = at.1.1 in
-    (by l index (subst (λ ms. Has ms l) good.loopback_first (find-has (λ m. bytes_eq m.name name) ls l found)), found_any (λ m. bytes_eq m.name name) (λ m. m.index == link) ls l found (eq-eqb l.index link index))
-  where
-    by : (l : Link) → l.index ≡ link → Has (loopback_link ∷ good.others) l → 2 ≤ link
-    by l index (inl first) = absurd (both_ways (link == lo) not_lo (eq-eqb link lo (sym index ∙ sym (ap (λ m. m.index) first))))
-    by l index (inr other) = subst (λ i. 2 ≤ i) index (each-has (λ m. (2 ≤ m.index) × (m.index < 65536)) good.others l good.from_two other).0

@@ -1,5 +1,5 @@
 -- A well formed state with one of its networks changed.
-use Rattle.std.proofs.Common.{◌≡◌, ◌∙◌, ◌≤◌, ◌==◌, ◌&&◌, ◌||◌, ℕ, Bool, true, false, not, Some, None, List, [], ◌∷◌, length, map, filter, refl, sym, ap, ap₂, subst, inl, inr, arith, if◌then◌else◌}
+use Rattle.std.proofs.Common.{◌≡◌, ◌∙◌, ◌≤◌, ◌==◌, ◌&&◌, ℕ, Bool, true, false, not, Some, None, List, [], ◌∷◌, length, map, filter, refl, sym, ap, ap₂, subst, inl, inr, if◌then◌else◌}
 use Rattle.std.specs.Prelude.{◌⊎◌, nat_le, Option, option_and_then}
 use Rattle.std.specs.List.{list_all, list_any}
 use Rattle.std.proofs.lemmas.Bool.{cases_Bool, false≢true, and_parts, and_from, or_parts, not_from_false, not-true, eqb-true, eq-eqb}
@@ -18,8 +18,9 @@ use Rattle.policy_state.specs.View.{StateView, Network, Ranked, TetherPair}
 use Rattle.policy_state.proofs.AlikeRules.{all-has}
 use Rattle.policy_state.proofs.GoodStates.{each-has, same-ids}
 use Rattle.policy_state.proofs.Members.{all-from, all-implied, any-implied, each-map, pairwise-map, of_filter}
-use Rattle.policy_state.proofs.NetworkParts.{Differ, differ-parts, differ-from, differ-turned, has-link, local-class, physical-class, same-test, id-found}
-use Rattle.policy_state.proofs.Owners.{Has, find-has, link-has}
+use Rattle.policy_state.proofs.Differing.{Differ, differ-parts, differ-from, differ-turned}
+use Rattle.policy_state.proofs.NetworkParts.{has-link, local-class, physical-class, same-test, id-found}
+use Rattle.policy_state.proofs.Owners.{Has, find-has}
 use Rattle.policy_state.proofs.PairLists.{pairs-kept, pairs-filter}
 
 -- the networks with the one of this id changed

@@ -1,7 +1,7 @@
 -- A well formed state with a network more, which has nothing yet, and with one fewer.
 use Rattle.std.proofs.Common.{◌≡◌, ◌∙◌, ◌≤◌, ◌<◌, ◌==◌, ◌&&◌, ℕ, Bool, true, false, not, Option, Some, None, List, [], ◌∷◌, ◌++◌, length, filter, refl, sym, ap, subst, inl, inr, arith, nat_le, is_none, if◌then◌else◌}
-use Rattle.std.specs.List.{list_all, list_any}
-use Rattle.std.proofs.lemmas.Bool.{cases_Bool, false≢true, and_parts, and_from, not_from_false, not-true, le-leb, eqb-true, eq-eqb, false_from_ne_true}
+use Rattle.std.specs.List.{list_all}
+use Rattle.std.proofs.lemmas.Bool.{cases_Bool, false≢true, and_parts, and_from, not_from_false, not-true, le-leb, eqb-true, false_from_ne_true}
 use Rattle.std.proofs.lemmas.List.{length-append}
 use Rattle.std.proofs.lemmas.List.Folds.{list_all-append}
 use Rattle.list_lemmas.proofs.Alls.{all-push, all-filter}
@@ -18,7 +18,8 @@ use Rattle.policy_state.specs.Step.{is_in, with_new_net, without_net}
 use Rattle.policy_state.specs.View.{StateView, Network, Ranked, TetherPair}
 use Rattle.policy_state.proofs.Accepted.{is_in-at}
 use Rattle.policy_state.proofs.Members.{all-from, in_append, in_filter, of_filter}
-use Rattle.policy_state.proofs.NetworkParts.{differ-from, found-by_id, unknown}
+use Rattle.policy_state.proofs.Differing.{differ-from}
+use Rattle.policy_state.proofs.NetworkParts.{found-by_id, unknown}
 use Rattle.policy_state.proofs.Owners.{Has, Passing, any-from, of_any}
 use Rattle.policy_state.proofs.PairLists.{pairs-kept, pairs-filter}
 

@@ -1,8 +1,8 @@
 -- What a command makes of its network, which is one that it may become.
-use Rattle.std.proofs.Common.{◌≡◌, ◌∙◌, ◌≤◌, ◌<◌, ◌==◌, ◌&&◌, ◌||◌, ◌+◌, ℕ, Bool, true, false, not, List, [], ◌∷◌, ◌++◌, length, map, filter, refl, sym, ap, subst, inl, inr, arith, nat_le}
+use Rattle.std.proofs.Common.{◌≡◌, ◌∙◌, ◌≤◌, ◌<◌, ◌==◌, ◌&&◌, ◌+◌, ℕ, Bool, true, false, not, List, [], ◌∷◌, ◌++◌, length, map, filter, refl, sym, ap, subst, inl, inr, arith, nat_le}
 use Rattle.std.specs.Prelude.{◌⊎◌}
-use Rattle.std.specs.List.{list_all, list_any}
-use Rattle.std.proofs.lemmas.Bool.{cases_Bool, false≢true, and_parts, and_from, or_left, or_parts, le-leb, not_from_false, not-true, eqb-true, eq-eqb, false_from_ne_true}
+use Rattle.std.specs.List.{list_all}
+use Rattle.std.proofs.lemmas.Bool.{cases_Bool, false≢true, and_parts, and_from, or_left, le-leb, not_from_false, not-true, eqb-true, eq-eqb, false_from_ne_true}
 use Rattle.std.proofs.lemmas.List.{length-append, length-map}
 use Rattle.std.proofs.lemmas.List.Folds.{list_any-append, list_all-append}
 use Rattle.list_lemmas.proofs.Alls.{all-weaker}
@@ -15,7 +15,7 @@ use Rattle.prefixes.specs.declared.prefix.Prefix.{Prefix}
 use Rattle.uid_ranges.proofs.RankedLists.{are_ranked-filter}
 use Rattle.uid_ranges.specs.Range.{meets}
 use Rattle.uid_ranges.specs.Ranges.{has, meets_any}
-use Rattle.uid_ranges.specs.Ranks.{are_ranked, all_at, ranked_without, users_meet_at}
+use Rattle.uid_ranges.specs.Ranks.{are_ranked, all_at, users_meet_at}
 use Rattle.uid_ranges.specs.declared.range.UidRange.{UidRange}
 use Rattle.commands.specs.declared.command.Way.{Way}
 use Rattle.commands.specs.declared.command.Way.TheVariants as way

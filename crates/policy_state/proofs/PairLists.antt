@@ -1,16 +1,21 @@
 -- The tether pairs of a state: where the state changes around them, some fewer, and one more.
-use Rattle.std.proofs.Common.{◌≡◌, ◌∙◌, ◌≤◌, ◌<◌, ◌==◌, ◌&&◌, ℕ, Bool, true, false, not, List, [], ◌∷◌, ◌++◌, filter, length, refl, sym, ap, ap₂, arith}
-use Rattle.std.specs.Prelude.{nat_le}
-use Rattle.std.specs.List.{list_all, list_any}
-use Rattle.std.proofs.lemmas.Bool.{and_parts, and_from}
+use Rattle.std.proofs.Common.{◌≡◌, ◌∙◌, ◌≤◌, ◌<◌, ◌==◌, ◌&&◌, ℕ, Bool, true, false, Some, List, [], ◌∷◌, ◌++◌, filter, length, refl, sym, ap, subst, inl, inr, arith}
+use Rattle.std.specs.Prelude.{nat_le, find}
+use Rattle.std.specs.List.{list_any}
+use Rattle.std.specs.Option.{option_map}
+use Rattle.std.specs.Str.{bytes_eq}
+use Rattle.std.proofs.lemmas.Bool.{and_parts, and_from, both_ways, eq-eqb}
 use Rattle.std.proofs.lemmas.List.{length-append}
 use Rattle.std.proofs.lemmas.List.Folds.{list_all-append}
-use Rattle.list_lemmas.proofs.Anys.{length-filter-le, none-weaker}
+use Rattle.list_lemmas.proofs.Anys.{length-filter-le}
 use Rattle.list_lemmas.proofs.Pairs.{list_all-filter, pairwise-filter, pairwise-push}
-use Rattle.policy_state.specs.Good.{ArePairs, differ, is_index, is_output, is_pair, pairs_differ, most_pairs}
-use Rattle.policy_state.specs.View.{Link, Network, TetherPair}
+use Rattle.rule_match.specs.Packet.{lo}
+use Rattle.policy_state.specs.Good.{AreLinks, ArePairs, differ, is_index, is_output, is_pair, pairs_differ, most_pairs}
+use Rattle.policy_state.specs.View.{Link, Network, TetherPair, loopback_link}
+use Rattle.policy_state.proofs.GoodStates.{each-has}
+use Rattle.policy_state.proofs.LinkLists.{link_at}
 use Rattle.policy_state.proofs.Members.{all-implied}
-use Rattle.policy_state.proofs.Owners.{Has}
+use Rattle.policy_state.proofs.Owners.{Has, any-from, find-has}
 
 pub record PairParts (links : List Link) (ns : List Network) (pair : TetherPair) : Type 0 where
   pub above : nat_le 2 pair.input ≡ true
@@ -55,3 +60,17 @@ pairs-push links ns pairs pair good parts absent room = record {
   differ = pairwise-push (λ a b. (a.input == b.input) && (a.out == b.out)) pairs pair good.differ absent;
   few = omega (arith, length-append pairs (pair ∷ []), room);
 }
+
+-- any link but `lo` may be the input of a tether pair
+pub may_be_input : (ls : List Link) (name : List ℕ) (link : ℕ) → AreLinks ls → (link == lo) ≡ false → option_map (λ l. l.index) (find (λ l. bytes_eq l.name name) ls) ≡ Some link
+    → (2 ≤ link) × (is_index ls link ≡ true)
+may_be_input ls name link good not_lo named =
+    let at = link_at ls name link named in
+    let l : Link = at.0 in
+    let index : l.index ≡ link = at.1.1 in
+    let there : Has ls l = find-has (λ m. bytes_eq m.name name) ls l at.1.0 in
+    (by l index (subst (λ ms. Has ms l) good.loopback_first there), any-from (λ m. m.index == link) ls l there (eq-eqb l.index link index))
+  where
+    by : (l : Link) → l.index ≡ link → Has (loopback_link ∷ good.others) l → 2 ≤ link
+    by l index (inl first) = absurd (both_ways (link == lo) not_lo (eq-eqb link lo (sym index ∙ sym (ap (λ m. m.index) first))))
+    by l index (inr other) = subst (λ i. 2 ≤ i) index (each-has (λ m. (2 ≤ m.index) × (m.index < 65536)) good.others l good.from_two other).0

@@ -1,8 +1,16 @@
 //! The state of the policy, the commands that change it, and the table of rules that it stands for.
 #![tactic(auto)]
 
+mod accept;
+mod accept_links;
+mod accept_networks;
+mod accept_pairs;
+mod accept_ranges;
+mod accept_routes;
+mod accept_users;
 mod change;
 mod commit;
+mod count;
 mod fault;
 mod laws;
 mod parts;
@@ -12,11 +20,14 @@ mod routes;
 mod row;
 mod rows;
 mod state;
+mod step;
 mod tether;
+mod turn;
 mod users;
 
 pub use change::Change;
 pub use commands::{Command, Way};
+pub use count::rule_count;
 pub use fault::StepFault;
 pub use laws::{rows_are_those, table_rises};
 pub use link_table::Link;

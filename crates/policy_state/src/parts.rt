@@ -2,6 +2,7 @@ ghost use Rattle.std.specs.Prelude.{◌≡◌, IfOk};
 ghost use Rattle.network_store.specs.Store.{nets_of};
 ghost use Rattle.policy_state.specs.Parts.{view_of};
 
+use crate::count::Tallies;
 use crate::tether::TetherPair;
 use crate::users::{PermissionTable, ProtectList};
 use link_table::LinkTable;
@@ -20,6 +21,8 @@ pub struct Parts {
     pub(crate) lockdown: Vec<UidRange>,
     pub(crate) pairs: Vec<TetherPair>,
     pub(crate) default: Option<u16>,
+    /// How many rules the networks have, kept up to date so that no network is gone over to count them.
+    pub(crate) tallies: Tallies,
 }
 
 impl Parts {
@@ -53,7 +56,8 @@ impl Parts {
 
     // The same parts.
     pub(crate) fn copy(&self) -> Result<Parts, AllocError>
-        ensures { IfOk result (λ parts. view_of parts ≡ view_of self.now) }
+        ensures view { IfOk result (λ parts. view_of parts ≡ view_of self.now) }
+        ensures tallies { IfOk result (λ parts. parts.tallies ≡ self.now.tallies) }
     {
         let (links, networks) = self.copy_of_networks()?;
         let (permissions, protectable) = self.copy_of_users()?;
@@ -67,6 +71,7 @@ impl Parts {
             lockdown,
             pairs,
             default: self.default,
+            tallies: self.tallies,
         })
     }
 }

@@ -10,7 +10,7 @@ use crate::row::NetworkSet;
 use network_store::{StoredNetwork, StoredNetworks};
 
 /// Whether this is the id of the default network.
-fn is_default(default: Option<u16>, id: u16) -> bool
+pub(crate) fn is_default(default: Option<u16>, id: u16) -> bool
     ensures { result ≡ is_default default id }
 {
     match default {

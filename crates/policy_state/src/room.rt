@@ -12,6 +12,7 @@ impl Parts {
     pub(crate) fn make_room(&mut self, change: &Change) -> Result<(), AllocError>
         ensures view { view_of self.new ≡ view_of self.old }
         ensures room { OnOk result (HasRoom change.now self.new) }
+        ensures tallies { self.new.tallies ≡ self.old.tallies }
     {
         match *change {
             Change::LinkComes { .. } => self.links.reserve(1),

@@ -5,6 +5,7 @@ ghost use Rattle.policy_state.specs.Step.{is_protectable};
 ghost use Rattle.policy_state.specs.Users.{permission_of};
 ghost use Rattle.policy_state.specs.View.{StateView, start, link_named, name_of};
 
+use crate::count::Tallies;
 use crate::parts::Parts;
 use crate::tether::TetherPair;
 use crate::users::{PermissionTable, ProtectList};
@@ -24,14 +25,14 @@ pub struct State {
 
 impl Model for State {
     ghost use Rattle.policy_state.specs.Good.{IsGood};
-    ghost use Rattle.policy_state.specs.Parts.{view_of};
+    ghost use Rattle.policy_state.specs.Parts.{view_of, IsTallied};
     ghost use Rattle.policy_state.specs.View.{StateView};
 
     ghost Value = { StateView };
 
     ghost view = { λ s. view_of s.parts };
 
-    ghost invariant = { λ s. IsGood (view_of s.parts) };
+    ghost invariant = { λ s. IsGood (view_of s.parts) × IsTallied s.parts };
 }
 
 impl State {
@@ -48,6 +49,7 @@ impl State {
             lockdown: Vec::new(alloc),
             pairs: Vec::new(alloc),
             default: None,
+            tallies: Tallies::at_start(),
         };
         Ok(State { parts })
     }

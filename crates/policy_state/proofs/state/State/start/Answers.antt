@@ -1,6 +1,7 @@
-use Rattle.std.proofs.Common.{◌≡◌, sym, subst, rules, None}
+use Rattle.std.proofs.Common.{◌≡◌, ◌∙◌, ap, sym, subst, rules, None}
 use Rattle.policy_state.specs.Good.{IsGood}
 use Rattle.policy_state.specs.Parts.{view_of}
+use Rattle.policy_state.specs.Tallies.{tallies_of}
 use Rattle.policy_state.specs.View.{start}
 use Rattle.policy_state.proofs.FirstState.{good-start}
 use Rattle.policy_state.proofs.state.State.start.Goals as goal
@@ -16,5 +17,6 @@ invariant_of-result c =
       lockdown = c.new.result;
       pairs = c.new-2.result;
       default = None;
+      tallies = c.at_start.result;
     }) ≡ start = search rules in
-    subst IsGood (sym is) good-start
+    (subst IsGood (sym is) good-start, c.at_start.ensures ∙ sym (ap tallies_of c.in_ok-start-2.ensures))
