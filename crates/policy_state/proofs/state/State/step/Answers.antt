@@ -18,3 +18,9 @@ invariant_of-result c =
     let s : StateView = view_of c.self.inside.parts in
     let accepted : refusal s c.args.command.now ≡ None = sym c.in-Ok.ensures.code in
     (subst IsGood (sym (c.in-Ok-turned_by.ensures.view ∙ c.in-Ok.ensures.makes.turned)) (good-changed s c.args.command.now c.self.invariant.0 c.fits_types.ensures accepted), c.in-Ok-turned_by.ensures.tallied)
+
+pub returns-in-Ok-turned_by-clause-good : goal.returns-in-Ok-turned_by-clause-good
+returns-in-Ok-turned_by-clause-good c =
+    let s : StateView = view_of c.self.inside.parts in
+    let accepted : refusal s c.args.command.now ≡ None = sym c.in-Ok.ensures.code in
+    subst IsGood (sym (c.in-Ok-turned_by.ensures.view ∙ c.in-Ok.ensures.makes.turned)) (good-changed s c.args.command.now c.self.invariant.0 c.fits_types.ensures accepted)
