@@ -40,24 +40,6 @@ owner-at s formed net n link found has =
     ap (option_map (λ (m : Network). m.id)) (found-by_link s formed n link (find-has (λ (m : Network). net == m.id) s.networks n found) has)
     ∙ ap Some (sym (id-found net s.networks n found))
 
-any-alike : {A : Type 0} (p q : A → Bool) (xs : List A) → ((x : A) → p x ≡ q x) → list_any p xs ≡ list_any q xs
-any-alike p q [] same = refl
-any-alike p q (x ∷ xs) same = ap₂ (λ (a b : Bool). a || b) (same x) (any-alike p q xs same)
-
--- networks of one class are those that take ranges of one kind
-pub kin-is : (which : RangeKind) (s : StateView) (rank : ℕ) (ranges : List UidRange) (n : Network) → takes which n.kind ≡ true → kin_meet rank ranges n s.networks ≡ any_meet_at (takes which) s rank ranges
-kin-is which s rank ranges n taken =
-    any-alike (λ (m : Network). (class_of m.kind == class_of n.kind) && users_meet_at rank (ranges_of m.kind) ranges) (λ (m : Network). takes which m.kind && users_meet_at rank (ranges_of m.kind) ranges) s.networks
-    (λ m. ap (λ b. b && users_meet_at rank (ranges_of m.kind) ranges) (by which n.kind m.kind taken))
-  where
-    by : (w : RangeKind) (k j : Kind) → takes w k ≡ true → (class_of j == class_of k) ≡ takes w j
-    by Users Local j h = absurd (false≢true h)
-    by Users (Physical permission apps) j h = absurd (false≢true h)
-    by Users (Virtual secure users) j h = virtual-class j
-    by Apps Local j h = absurd (false≢true h)
-    by Apps (Physical permission apps) j h = physical-class j
-    by Apps (Virtual secure users) j h = absurd (false≢true h)
-
 -- a network that has the link already stays
 pub link-there : (s : StateView) → IsWellFormed s → (net : ℕ) (n : Network) (link : ℕ) → find_id net s.networks ≡ Some n → has_link n link ≡ true → with_net net (with_link link) s ≡ s
 link-there s formed net n link found has = ap (λ ns. record s { networks = ns }) (by s.networks (λ m there. there))

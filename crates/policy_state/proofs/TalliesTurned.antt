@@ -1,5 +1,5 @@
 -- A change moves the tallies by what the network that it touches has before and after it.
-use Rattle.std.proofs.Common.{◌≡◌, ◌∙◌, ◌+◌, ◌==◌, ℕ, Bool, true, false, List, [], ◌∷◌, ◌++◌, Option, Some, None, map, refl, sym, ap, inl, inr, arith}
+use Rattle.std.proofs.Common.{◌≡◌, ◌∙◌, ◌+◌, ◌==◌, ℕ, Bool, true, false, List, [], ◌∷◌, ◌++◌, Option, Some, None, map, refl, sym, ap, subst, inl, inr, arith}
 use Rattle.std.specs.Prelude.{sum_by, if◌then◌else◌}
 use Rattle.std.specs.Option.{option_map, option_map_or}
 use Rattle.std.proofs.lemmas.Bool.{cases_Bool}
@@ -8,9 +8,10 @@ use Rattle.networks.specs.Network.{has_link}
 use Rattle.networks.specs.declared.kind.Kind.{Kind}
 use Rattle.networks.specs.declared.kind.Kind.TheVariants as kind
 use Rattle.policy_state.specs.Change.{turned, Fits}
-use Rattle.policy_state.specs.ChangedNet.{net_of, share_in}
+use Rattle.policy_state.specs.ChangedNet.{net_of, share_in, shares_of, counts_virtual}
 use Rattle.policy_state.specs.Step.{is_in, is_protectable, with_link, without_link, with_net, without_net, without_interface, with_route, without_route, with_ranges, without_ranges, with_permission}
-use Rattle.policy_state.specs.Tallies.{share}
+use Rattle.policy_state.specs.Tallies.{own, share, tallies_of}
+use Rattle.policy_state.specs.declared.count.Tallies.{Tallies}
 use Rattle.policy_state.specs.View.{Network, StateView}
 use Rattle.policy_state.specs.declared.change.Change.{Change}
 use Rattle.policy_state.specs.declared.change.Change.TheVariants as change
@@ -74,3 +75,17 @@ module _ (f : Network → ℕ) (s : StateView) (keyed : AreKeyed s.networks) whe
   moved (change.LockdownGoes range) fits = refl
   moved (change.PairComes pair) fits = refl
   moved (change.PairGoes pair) fits = refl
+
+-- what is kept, and what the network has before and after
+pub record AreMoved (new kept before after : Tallies) : Type 0 where
+  pub own : new.own + before.own ≡ kept.own + after.own
+  pub virtuals : new.virtuals + before.virtuals ≡ kept.virtuals + after.virtuals
+
+pub tallies-moved : (s : StateView) → AreKeyed s.networks → (c : Change) → Fits c s → (t : StateView) → t ≡ turned c s → (net : Option ℕ) → net ≡ net_of c → (kept before after : Tallies)
+    → kept ≡ tallies_of s.networks → before ≡ shares_of net s.networks → after ≡ shares_of net t.networks → AreMoved (tallies_of t.networks) kept before after
+tallies-moved s keyed c fits t is net of kept before after kept_is before_is after_is =
+    subst (λ (u : Tallies). AreMoved (tallies_of t.networks) u before after) (sym kept_is)
+    (subst (λ (u : Tallies). AreMoved (tallies_of t.networks) (tallies_of s.networks) u after) (sym (before_is ∙ ap (λ n. shares_of n s.networks) of))
+    (subst (λ (u : Tallies). AreMoved (tallies_of t.networks) (tallies_of s.networks) (shares_of (net_of c) s.networks) u) (sym (after_is ∙ ap (λ n. shares_of n t.networks) of))
+    (subst (λ (u : StateView). AreMoved (tallies_of u.networks) (tallies_of s.networks) (shares_of (net_of c) s.networks) (shares_of (net_of c) u.networks)) (sym is)
+    (record { own = moved own s keyed c fits; virtuals = moved counts_virtual s keyed c fits }))))

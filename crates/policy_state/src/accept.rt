@@ -94,7 +94,10 @@ impl State {
     pub fn refusal_of(&self, command: &Command) -> Option<Code>
         ensures { result ≡ step.refusal self.now command.now }
     {
-        let _parts = &self.parts;
-        self.parts.accept(command).err()
+        let parts = &self.parts;
+        match parts.accept(command) {
+            Ok(_) => None,
+            Err(code) => Some(code),
+        }
     }
 }

@@ -20,6 +20,7 @@ mod routes;
 mod row;
 mod rows;
 mod state;
+mod step;
 mod tether;
 mod turn;
 mod users;

@@ -1,6 +1,6 @@
 // A change is made, and the tallies follow it by what the one network that it may touch has before and after it.
 ghost use Rattle.std.specs.Prelude.{◌≡◌, ◌≤◌, ◌+◌, ◌-◌};
-ghost use Rattle.network_store.specs.Stored.{net_of as stored_net};
+ghost use Rattle.network_store.specs.Stored.{kind_of, net_of as stored_net};
 ghost use Rattle.policy_state.specs.Change.{Fits, turned};
 ghost use Rattle.policy_state.specs.ChangedNet.{net_of, shares_of};
 ghost use Rattle.policy_state.specs.Good.{IsGood, IsNetwork, most_rules};
@@ -11,7 +11,7 @@ ghost use Rattle.policy_state.specs.Tallies as tallies;
 use crate::change::Change;
 use crate::count::{Tallies, per_link, per_range};
 use crate::parts::Parts;
-use network_store::StoredNetwork;
+use network_store::{StoredKind, StoredNetwork};
 
 impl Change<'_> {
     // The one network that it may touch.
@@ -45,6 +45,18 @@ impl Change<'_> {
     }
 }
 
+// How many rules a network of this kind has by itself.
+fn alone(kind: &StoredKind) -> u64
+    ensures value { result ≡ tallies.alone (kind_of kind.now) }
+    ensures few { result ≤ 1 }
+{
+    match kind {
+        StoredKind::Local => 1,
+        StoredKind::Physical { .. } => 0,
+        StoredKind::Virtual { .. } => 0,
+    }
+}
+
 // How many rules the network has for itself.
 fn own_of(network: &StoredNetwork) -> u64
     requires { IsNetwork (stored_net network.now) }
@@ -53,8 +65,7 @@ fn own_of(network: &StoredNetwork) -> u64
 {
     let links = network.interfaces.len() as u64;
     let ranges = network.kind.ranges().len() as u64;
-    let alone = if network.kind.is_local() { 1 } else { 0 };
-    alone + per_link(&network.kind) * links + per_range(&network.kind) * (links * ranges)
+    alone(&network.kind) + per_link(&network.kind) * links + per_range(&network.kind) * (links * ranges)
 }
 
 impl Parts {
