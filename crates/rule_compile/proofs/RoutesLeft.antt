@@ -1,11 +1,11 @@
 -- The one route that has a key, as a search finds it, and the requests of routes that leave.
-use Rattle.std.proofs.Common.{◌≡◌, ◌∙◌, ◌==◌, ◌&&◌, ℕ, Bool, true, false, cond, Option, Some, None, List, [], ◌∷◌, ◌++◌, refl, sym, ap, subst, inl, inr, map, filter, take, ◌+◌, append_assoc}
+use Rattle.std.proofs.Common.{◌≡◌, ◌∙◌, ◌==◌, ℕ, Bool, true, false, Some, None, List, [], ◌∷◌, ◌++◌, refl, sym, ap, subst, inl, inr, map, filter, take, ◌+◌, append_assoc}
 use Rattle.std.specs.Prelude.{find, flat_map, if◌then◌else◌}
-use Rattle.std.proofs.lemmas.Bool.{cases_Bool, false≢true, and_parts, eqb-true}
+use Rattle.std.proofs.lemmas.Bool.{cases_Bool, and_parts, eqb-true}
 use Rattle.std.proofs.lemmas.Grind.{flat_map-append}
 use Rattle.std.proofs.lemmas.List.{append-nil, map-append}
 use Rattle.std.proofs.lemmas.Option.{none-some}
-use Rattle.fib_table.specs.Table.{has_key, are_keys_distinct}
+use Rattle.fib_table.specs.Table.{are_keys_distinct}
 use Rattle.networks.specs.Network.{routes_by, is_keyed_by}
 use Rattle.networks.specs.declared.network.LinkRoute.{LinkRoute}
 use Rattle.networks.specs.declared.network.Network.{Network}
@@ -20,7 +20,7 @@ use Rattle.policy_state.specs.Table.{table_of}
 use Rattle.policy_state.specs.View.{StateView}
 use Rattle.policy_state.proofs.GoodStates.{each-has}
 use Rattle.policy_state.proofs.Owners.{Has, any-from}
-use Rattle.rule_compile.specs.Asked.{keyed_in}
+use Rattle.rule_compile.specs.Asked.{keyed_in, leaving_by, shortest_first}
 use Rattle.rule_compile.proofs.Defaults.{Found, of_find}
 use Rattle.rule_compile.proofs.RouteTables.{OneOfKey, one_of_key, keyed-routes, has_filtered, in_by}
 
@@ -91,3 +91,9 @@ keys-once s good net link n found =
     let there : Found (λ (n : Network). net == n.id) s.networks n = of_find (λ (n : Network). net == n.id) s.networks n found in
     let it : IsNetwork n = each-has IsNetwork s.networks n good.formed.networks.each there.there in
     it.keys_distinct link
+
+-- an interface's routes, once they are sorted
+pub leaving-is : (n : Network) (link table : ℕ) (routes sorted own : List Route) → table ≡ table_of n.kind link → own ≡ routes_by link n.routes → sorted ≡ shortest_first own → routes ≡ sorted
+    → map {B = ℕ × Route} (λ (r : Route). (table, r)) routes ≡ leaving_by n link
+leaving-is n link table routes sorted own at of_link shortest same =
+    ap (λ t. map {B = ℕ × Route} (λ (r : Route). (t, r)) routes) at ∙ ap (map {B = ℕ × Route} (λ (r : Route). (table_of n.kind link, r))) (same ∙ (shortest ∙ ap shortest_first of_link))

@@ -3,8 +3,8 @@
 #![tactic(auto)]
 
 mod difference;
-mod laws;
 mod going_routes;
+mod laws;
 mod requests;
 mod routes;
 mod rows;
