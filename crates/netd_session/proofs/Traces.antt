@@ -1,8 +1,8 @@
 -- What is said of a packet is what its line says, by the link and the socket of the line.
-use Rattle.std.proofs.Common.{◌≡◌, ℕ, ◌∷◌, List, Option, None, Some, inl, inr, sym, subst}
+use Rattle.std.proofs.Common.{◌≡◌, ℕ, ◌∷◌, List, Option, None, Some, inl, inr, refl, sym, subst}
 use Rattle.kernel_model.specs.View.{state_of}
 use Rattle.kernel_model.specs.Walk.{trail_of}
-use Rattle.mark_server.specs.Sockets.{socket_of}
+use Rattle.mark_server.specs.Sockets.{Sockets, socket_of}
 use Rattle.mark_server.specs.declared.socket.Socket.{Socket}
 use Rattle.net_names.specs.declared.code.Code.TheVariants as code
 use Rattle.policy_meaning.specs.Policy.{policy}
@@ -16,6 +16,7 @@ use Rattle.uid_ranges.specs.declared.range.Uid.{Uid}
 use Rattle.netd_session.specs.Answers.{IsAnsweredLine, IsBoundAndTraced, IsNowWatched, IsPacketLine, IsPassedAndTraced, IsSentAndTraced, IsTraced, passed_text, watch_text}
 use Rattle.netd_session.specs.Told.{IsRefused, IsTold}
 use Rattle.netd_session.specs.Turns.{Standing}
+use Rattle.netd_session.specs.Watches.{IsSent, IsWatched}
 use Rattle.netd_session.specs.declared.turn.Said.TheVariants as said
 use Rattle.netd_session.specs.declared.turn.Turn.{Turn}
 use Rattle.netd_session.specs.declared.watch.Watch.{Watch}
@@ -94,3 +95,10 @@ module _ (n : ℕ) (s e : Standing) (out : List ℕ) where
     pub unpassed_line : link_named s.controller.state link ≡ None
         → (more : List Turn) → IsRefused code.NoDevice n s e more out → IsAnsweredLine (line.Trace (trace.Passed link dest)) n s e more out
     unpassed_line unknown more is = link_line None unknown more is
+
+-- the packet that is watched
+pub is_watched : (sockets : Sockets) (o : Option Watch) (watch : Watch) (from : Socket) (packet : Packet) → o ≡ Some watch → socket_of watch.socket sockets ≡ Some from
+    → IsMade from.uid from.mark watch.dest from.bound packet → IsWatched sockets o (Some packet)
+is_watched sockets o watch from packet some known made =
+    subst (λ (w : Option Watch). IsWatched sockets w (Some packet)) (sym some)
+    (subst (λ (s : Option Socket). IsSent s watch.dest (Some packet)) (sym known) (packet, made, refl))

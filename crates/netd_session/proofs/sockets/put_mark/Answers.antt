@@ -2,10 +2,9 @@ use Rattle.std.proofs.Common.{◌≤◌, ◌+◌, ◌<◌, ◌^◌, ◌++◌, �
 use Rattle.std.specs.Fmt.{decimal}
 use Rattle.number_text.proofs.Spelled.{length-digits-le}
 use Rattle.number_text.specs.Numbers.{hexadecimal}
-use Rattle.turn_text.proofs.Rooms.{in_room}
 use Rattle.turn_text.specs.Texts.{answer_room, line_feed, numbered}
 use Rattle.word_text.specs.Texts.{mark_text}
-use Rattle.netd_session.proofs.Rooms.{digits_10}
+use Rattle.netd_session.proofs.Rooms.{digits_10, fits, written_ok}
 use Rattle.netd_session.specs.SocketLines.{mark_line}
 use Rattle.netd_session.proofs.sockets.put_mark.Goals as goal
 
@@ -16,6 +15,8 @@ mark_length mark small =
 
 pub returns : goal.returns
 returns c =
-    in_room c.args.out.now c.write_new_mark.new.out c.write_new_mark.result (numbered c.args.number (mark_line c.args.mark)) answer_room c.write_new_mark.ensures
-    (omega (arith, length-append (decimal c.args.number ++ codes ": ") (mark_line c.args.mark), length-append (decimal c.args.number) (codes ": "),
-    digits_10 c.args.number (omega arith), mark_length c.args.mark (omega arith))) c.requires.room
+    let text = numbered c.args.number (mark_line c.args.mark) in
+    let short : length (numbered c.args.number (mark_line c.args.mark)) ≤ answer_room =
+    omega (arith, length-append (decimal c.args.number ++ codes ": ") (mark_line c.args.mark), length-append (decimal c.args.number) (codes ": "),
+    digits_10 c.args.number (omega arith), mark_length c.args.mark (omega arith)) in
+    written_ok c.write_new_mark.result text (fits c.write_new_mark.result text answer_room c.write_new_mark.ensures short c.requires.room) c.write_new_mark.ensures

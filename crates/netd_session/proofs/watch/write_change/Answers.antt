@@ -5,7 +5,6 @@ use Rattle.report_text.specs.Verdicts.{verdict_text}
 use Rattle.turn_text.specs.Texts.{line_feed}
 use Rattle.netd_session.proofs.Rooms.{digits_20, fits, no_room, room_left, said_ok}
 use Rattle.netd_session.specs.Watches.{change_text}
-use Rattle.netd_session.proofs.watch.write_change.Given.{Over}
 use Rattle.netd_session.proofs.watch.write_change.Goals as goal
 
 -- the text before the verdict
