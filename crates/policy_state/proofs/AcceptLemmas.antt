@@ -118,5 +118,10 @@ routes-in_all n good = by n.routes good.routes_belong
         none [] = refl
         none (i ∷ is) = omega (arith, sum_by-cons (λ j. length (routes_by j [])) i is, none is)
     by (r ∷ rs) all =
-        omega (arith, sum-same (λ i. length (routes_by i (r ∷ rs))) (λ i. counts_at r.link i + length (routes_by i rs)) n.interfaces (routes-cons r rs),
-        sum-add (counts_at r.link) (λ i. length (routes_by i rs)) n.interfaces, once-one r.link n.interfaces good.interfaces_differ all.0.0, by rs all.1)
+        omega (
+          arith,
+          sum-same (λ i. length (routes_by i (r ∷ rs))) (λ i. counts_at r.link i + length (routes_by i rs)) n.interfaces (routes-cons r rs),
+          sum-add (counts_at r.link) (λ i. length (routes_by i rs)) n.interfaces,
+          once-one r.link n.interfaces good.interfaces_differ all.0.0,
+          by rs all.1,
+        )

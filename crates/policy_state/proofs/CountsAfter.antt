@@ -194,7 +194,7 @@ module _ (net : ℕ) (change : Network → Network) where
               | inl e ↦
                   let same : m ≡ n = same-ids s formed m n (find-has test s.networks m some) here (sym (eqb-true net m.id e) ∙ id) in
                   let it : (is_default s.default net && is_physical n.kind) ≡ true =
-                      and_from _ _ (ap (is_default s.default) (eqb-true net m.id e) ∙ passes.1) (ap (λ (k : Network). is_physical k.kind) (sym same) ∙ (sym (physical-class m.kind) ∙ passes.0)) in
+                  and_from _ _ (ap (is_default s.default) (eqb-true net m.id e) ∙ passes.1) (ap (λ (k : Network). is_physical k.kind) (sym same) ∙ (sym (physical-class m.kind) ∙ passes.0)) in
                   sym (rw it (sym (ap (λ k. length k.interfaces) (turned-here m e) ∙ ap (λ k. length (change k).interfaces) same)))
               | inr e ↦
                   let other : is_default s.default net ≡ false = apart s.default m passes.1 e in
@@ -313,7 +313,7 @@ module _ (s : StateView) (formed : IsWellFormed s) where
     rules-with_ranges rank more =
         let same_class = λ (m : Network). kind_with-class rank more m.kind in
         let moved = rules-moved net n found (with_ranges rank more) (λ m. refl) same_class 0 (per_range n.kind * (length n.interfaces * length more)) (add-zero (own (with_ranges rank more n)) ∙ own-ranges n rank more)
-            (links-kept net (with_ranges rank more) s (λ m. refl) same_class (λ m. refl)) in
+        (links-kept net (with_ranges rank more) s (λ m. refl) same_class (λ m. refl)) in
         sym (add-zero (rule_count (with_net net (with_ranges rank more) s))) ∙ moved
 
     pub rules-asking : (permission : Permission) → rule_count (with_net net (with_permission permission) s) + per_link n.kind * length n.interfaces ≡ rule_count s + per_link (asking_for permission n.kind) * length n.interfaces

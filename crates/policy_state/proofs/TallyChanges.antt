@@ -120,10 +120,24 @@ module _ (f : Network → ℕ) (net : ℕ) where
     pub share-changed : (ns : List Network) → AreKeyed ns → sum_by f (with_change net change ns) + share f net ns ≡ sum_by f ns + share (λ n. f (change n)) net ns
     share-changed [] keyed = refl
     share-changed (n ∷ ns) keyed = elim (cases_Bool (net == n.id)) as (λ _. sum_by f (with_change net change (n ∷ ns)) + share f net (n ∷ ns) ≡ sum_by f (n ∷ ns) + share (λ m. f (change m)) net (n ∷ ns)) [
-      | inl e ↦ omega (arith, share-here n ns e, share-at (λ m. f (change m)) net (n ∷ ns) (Some n) (find-here net n ns e), ap (sum_by f) (changed-here n ns e),
-          sum_by-cons f (change n) (with_change net change ns), sum_by-cons f n ns, ap (sum_by f) (untouched net change ns (absent-at n ns keyed e)))
-      | inr e ↦ omega (arith, share-later n ns e, share-at (λ m. f (change m)) net (n ∷ ns) (find_id net ns) (find-later net n ns e), ap (sum_by f) (changed-later n ns e),
-          sum_by-cons f n (with_change net change ns), sum_by-cons f n ns, share-changed ns (rest-keyed n ns keyed))
+      | inl e ↦ omega (
+        arith,
+        share-here n ns e,
+        share-at (λ m. f (change m)) net (n ∷ ns) (Some n) (find-here net n ns e),
+        ap (sum_by f) (changed-here n ns e),
+        sum_by-cons f (change n) (with_change net change ns),
+        sum_by-cons f n ns,
+        ap (sum_by f) (untouched net change ns (absent-at n ns keyed e)),
+      )
+      | inr e ↦ omega (
+        arith,
+        share-later n ns e,
+        share-at (λ m. f (change m)) net (n ∷ ns) (find_id net ns) (find-later net n ns e),
+        ap (sum_by f) (changed-later n ns e),
+        sum_by-cons f n (with_change net change ns),
+        sum_by-cons f n ns,
+        share-changed ns (rest-keyed n ns keyed),
+      )
     ]
 
     -- no more, where it has no more

@@ -33,7 +33,7 @@ overflow_sub-result c =
     let moved = rules-asking s c.requires.good.formed c.args.net n (sym c.in-Some.ensures) c.args.permission in
     let old : c.per_link.result * c.len-links.result ≡ per_link n.kind * length n.interfaces = ap₂ (λ (a b : ℕ). a * b) c.per_link.ensures.value c.len-links.ensures.value in
     let new : c.per_link_asking.result * c.len-links.result ≡ per_link (asking_for c.args.permission n.kind) * length n.interfaces =
-        ap₂ (λ (a b : ℕ). a * b) (c.per_link_asking.ensures.value ∙ sym (asking-physical c.args.permission n.kind physical)) c.len-links.ensures.value in
+    ap₂ (λ (a b : ℕ). a * b) (c.per_link_asking.ensures.value ∙ sym (asking-physical c.args.permission n.kind physical)) c.len-links.ensures.value in
     omega (arith, moved, old, new, c.rule_count-2.ensures.value)
 
 pub returns : goal.returns
@@ -44,5 +44,5 @@ returns c =
     let moved = rules-asking s c.requires.good.formed c.args.net n (sym c.in-Some.ensures) c.args.permission in
     let old : c.per_link.result * c.len-links.result ≡ per_link n.kind * length n.interfaces = ap₂ (λ (a b : ℕ). a * b) c.per_link.ensures.value c.len-links.ensures.value in
     let new : c.per_link_asking.result * c.len-links.result ≡ per_link (asking_for c.args.permission n.kind) * length n.interfaces =
-        ap₂ (λ (a b : ℕ). a * b) (c.per_link_asking.ensures.value ∙ sym (asking-physical c.args.permission n.kind physical)) c.len-links.ensures.value in
+    ap₂ (λ (a b : ℕ). a * b) (c.per_link_asking.ensures.value ∙ sym (asking-physical c.args.permission n.kind physical)) c.len-links.ensures.value in
     omega (arith, moved, old, new, c.rule_count-2.ensures.value)
