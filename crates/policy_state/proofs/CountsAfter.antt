@@ -1,9 +1,9 @@
 -- How many rules a state has after a change.
-use Rattle.std.proofs.Common.{◌≡◌, ◌∙◌, ◌≤◌, ◌+◌, ◌*◌, ◌==◌, ℕ, Bool, true, false, cond, not, List, [], ◌∷◌, ◌++◌, Option, Some, None, length, map, filter, refl, sym, ap, ap₂, subst, inl, inr, add-zero, arith}
-use Rattle.std.specs.Prelude.{◌&&◌, ◌||◌, sum_by, count_by, find, is_some, if◌then◌else◌}
+use Rattle.std.proofs.Common.{◌≡◌, ◌∙◌, ◌≤◌, ◌+◌, ◌*◌, ◌==◌, ℕ, Bool, true, false, cond, not, List, [], ◌∷◌, ◌++◌, Option, Some, None, length, map, refl, sym, ap, ap₂, subst, inl, inr, add-zero, arith}
+use Rattle.std.specs.Prelude.{◌&&◌, ◌||◌, find, is_some, if◌then◌else◌}
 use Rattle.std.specs.List.{list_any}
 use Rattle.std.specs.Option.{option_map, option_or}
-use Rattle.std.proofs.lemmas.Bool.{cases_Bool, false≢true, and_parts, and_from, or_parts, not-true, eqb-true, eq-eqb}
+use Rattle.std.proofs.lemmas.Bool.{cases_Bool, false≢true, and_parts, and_from, eqb-true}
 use Rattle.std.proofs.lemmas.List.{length-append, length-map, map-append}
 use Rattle.std.proofs.lemmas.List.Sums.{sum_by_push, count_by-le-length}
 use Rattle.std.proofs.lemmas.List.Folds.{find-append}
@@ -35,7 +35,7 @@ use Rattle.policy_state.proofs.NetworkParts.{id-found, physical-class, virtual-c
 use Rattle.policy_state.proofs.Owners.{Has, Passing, find-has, of_any, any-from}
 use Rattle.policy_state.proofs.Tables.{count-is}
 use Rattle.policy_state.proofs.Tallied.{count-tallied}
-use Rattle.policy_state.proofs.TallyChanges.{share-changed, share-at, find-changed, keyed-changed}
+use Rattle.policy_state.proofs.TallyChanges.{share-changed, share-at, keyed-changed}
 
 pub rules-tallied : (s : StateView) → AreKeyed s.networks → rule_count s ≡ tallied s
 rules-tallied s keyed = count-is s ∙ count-tallied s keyed

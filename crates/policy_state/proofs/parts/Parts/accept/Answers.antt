@@ -1,4 +1,4 @@
-use Rattle.std.proofs.Common.{◌≡◌, ◌∙◌, true, sym, ap, rules}
+use Rattle.std.proofs.Common.{◌≡◌, ◌∙◌, true, sym, ap}
 use Rattle.std.specs.Prelude.{nat_lt}
 use Rattle.net_names.specs.declared.code.Code.TheVariants as code
 use Rattle.policy_state.specs.Counts.{rule_count}

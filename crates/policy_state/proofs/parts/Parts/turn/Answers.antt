@@ -1,4 +1,4 @@
-use Rattle.std.proofs.Common.{◌≡◌, ◌≤◌, ◌+◌, ◌-◌, ℕ, sym, ap₂, subst, arith}
+use Rattle.std.proofs.Common.{ℕ, sym, ap₂, subst, arith}
 use Rattle.policy_state.specs.Good.{IsGood}
 use Rattle.policy_state.specs.Parts.{view_of}
 use Rattle.policy_state.specs.Tallies.{tallies_of}
