@@ -1,6 +1,6 @@
 -- What the looks at networks find.
-use Rattle.std.proofs.Common.{◌≡◌, ◌∙◌, ◌≤◌, ◌+◌, ◌==◌, ℕ, suc, Bool, true, false, not, List, [], ◌∷◌, ◌++◌, Option, Some, None, length, map, refl, sym, ap, ap₂, subst, inl, inr, arith}
-use Rattle.std.specs.Prelude.{◌&&◌, ◌||◌, find, sum_by, if◌then◌else◌}
+use Rattle.std.proofs.Common.{◌≡◌, ◌∙◌, ◌+◌, ◌==◌, ℕ, suc, true, List, [], ◌∷◌, ◌++◌, Some, None, length, map, refl, sym, ap, ap₂, subst, inl, inr, arith}
+use Rattle.std.specs.Prelude.{sum_by, if◌then◌else◌}
 use Rattle.std.specs.List.{list_any, list_all, AllByRecursion}
 use Rattle.std.specs.Option.{option_map}
 use Rattle.std.proofs.lemmas.Bool.{cases_Bool, false≢true, and_parts, not-true, eqb-true, eq-eqb}
@@ -8,22 +8,15 @@ use Rattle.std.proofs.lemmas.List.Sums.{sum_by-cons}
 use Rattle.std.proofs.lemmas.Option.{none-some}
 use Rattle.list_lemmas.specs.Pairwise.{pairwise}
 use Rattle.list_lemmas.proofs.Numbers.{unlike-sym}
-use Rattle.network_store.specs.Kin.{kin_meet}
-use Rattle.networks.specs.Kinds.{class_of, ranges_of, is_physical, is_virtual}
 use Rattle.networks.specs.Lists.{find_id, find_link}
 use Rattle.networks.specs.Network.{has_link, routes_by}
 use Rattle.networks.specs.declared.network.LinkRoute.{LinkRoute}
-use Rattle.uid_ranges.specs.Ranks.{users_meet_at}
-use Rattle.uid_ranges.specs.declared.range.UidRange.{UidRange}
-use Rattle.policy_state.specs.Accept.{takes}
 use Rattle.policy_state.specs.Good.{IsNetwork, IsWellFormed, LeadsOut, differ}
-use Rattle.policy_state.specs.Step.{Reason, any_meet_at, first_that_holds, with_net, with_link}
-use Rattle.policy_state.specs.View.{Kind, Local, Physical, Virtual, Network, StateView}
-use Rattle.policy_state.specs.declared.accept_ranges.RangeKind.{RangeKind}
-use Rattle.policy_state.specs.declared.accept_ranges.RangeKind.TheVariants.{Users, Apps}
+use Rattle.policy_state.specs.Step.{Reason, first_that_holds, with_net, with_link}
+use Rattle.policy_state.specs.View.{Network, StateView}
 use Rattle.policy_state.proofs.GoodStates.{same-ids}
 use Rattle.policy_state.proofs.GoodFacts.{found-by_link}
-use Rattle.policy_state.proofs.NetworkParts.{id-found, physical-class, virtual-class}
+use Rattle.policy_state.proofs.NetworkParts.{id-found}
 use Rattle.policy_state.proofs.Owners.{Has, find-has}
 
 -- where none of some reasons holds and one after them does, it is the first
@@ -118,5 +111,10 @@ routes-in_all n good = by n.routes good.routes_belong
         none [] = refl
         none (i ∷ is) = omega (arith, sum_by-cons (λ j. length (routes_by j [])) i is, none is)
     by (r ∷ rs) all =
-        omega (arith, sum-same (λ i. length (routes_by i (r ∷ rs))) (λ i. counts_at r.link i + length (routes_by i rs)) n.interfaces (routes-cons r rs),
-        sum-add (counts_at r.link) (λ i. length (routes_by i rs)) n.interfaces, once-one r.link n.interfaces good.interfaces_differ all.0.0, by rs all.1)
+        omega (
+          arith,
+          sum-same (λ i. length (routes_by i (r ∷ rs))) (λ i. counts_at r.link i + length (routes_by i rs)) n.interfaces (routes-cons r rs),
+          sum-add (counts_at r.link) (λ i. length (routes_by i rs)) n.interfaces,
+          once-one r.link n.interfaces good.interfaces_differ all.0.0,
+          by rs all.1,
+        )

@@ -1,9 +1,9 @@
 -- How many rules a state has after a change.
-use Rattle.std.proofs.Common.{◌≡◌, ◌∙◌, ◌≤◌, ◌+◌, ◌*◌, ◌==◌, ℕ, Bool, true, false, cond, not, List, [], ◌∷◌, ◌++◌, Option, Some, None, length, map, filter, refl, sym, ap, ap₂, subst, inl, inr, add-zero, arith}
-use Rattle.std.specs.Prelude.{◌&&◌, ◌||◌, sum_by, count_by, find, is_some, if◌then◌else◌}
+use Rattle.std.proofs.Common.{◌≡◌, ◌∙◌, ◌≤◌, ◌+◌, ◌*◌, ◌==◌, ℕ, Bool, true, false, cond, not, List, [], ◌∷◌, ◌++◌, Option, Some, None, length, map, refl, sym, ap, ap₂, subst, inl, inr, add-zero, arith}
+use Rattle.std.specs.Prelude.{◌&&◌, ◌||◌, find, is_some, if◌then◌else◌}
 use Rattle.std.specs.List.{list_any}
 use Rattle.std.specs.Option.{option_map, option_or}
-use Rattle.std.proofs.lemmas.Bool.{cases_Bool, false≢true, and_parts, and_from, or_parts, not-true, eqb-true, eq-eqb}
+use Rattle.std.proofs.lemmas.Bool.{cases_Bool, false≢true, and_parts, and_from, eqb-true}
 use Rattle.std.proofs.lemmas.List.{length-append, length-map, map-append}
 use Rattle.std.proofs.lemmas.List.Sums.{sum_by_push, count_by-le-length}
 use Rattle.std.proofs.lemmas.List.Folds.{find-append}
@@ -35,7 +35,7 @@ use Rattle.policy_state.proofs.NetworkParts.{id-found, physical-class, virtual-c
 use Rattle.policy_state.proofs.Owners.{Has, Passing, find-has, of_any, any-from}
 use Rattle.policy_state.proofs.Tables.{count-is}
 use Rattle.policy_state.proofs.Tallied.{count-tallied}
-use Rattle.policy_state.proofs.TallyChanges.{share-changed, share-at, find-changed, keyed-changed}
+use Rattle.policy_state.proofs.TallyChanges.{share-changed, share-at, keyed-changed}
 
 pub rules-tallied : (s : StateView) → AreKeyed s.networks → rule_count s ≡ tallied s
 rules-tallied s keyed = count-is s ∙ count-tallied s keyed
@@ -194,7 +194,7 @@ module _ (net : ℕ) (change : Network → Network) where
               | inl e ↦
                   let same : m ≡ n = same-ids s formed m n (find-has test s.networks m some) here (sym (eqb-true net m.id e) ∙ id) in
                   let it : (is_default s.default net && is_physical n.kind) ≡ true =
-                      and_from _ _ (ap (is_default s.default) (eqb-true net m.id e) ∙ passes.1) (ap (λ (k : Network). is_physical k.kind) (sym same) ∙ (sym (physical-class m.kind) ∙ passes.0)) in
+                  and_from _ _ (ap (is_default s.default) (eqb-true net m.id e) ∙ passes.1) (ap (λ (k : Network). is_physical k.kind) (sym same) ∙ (sym (physical-class m.kind) ∙ passes.0)) in
                   sym (rw it (sym (ap (λ k. length k.interfaces) (turned-here m e) ∙ ap (λ k. length (change k).interfaces) same)))
               | inr e ↦
                   let other : is_default s.default net ≡ false = apart s.default m passes.1 e in
@@ -313,7 +313,7 @@ module _ (s : StateView) (formed : IsWellFormed s) where
     rules-with_ranges rank more =
         let same_class = λ (m : Network). kind_with-class rank more m.kind in
         let moved = rules-moved net n found (with_ranges rank more) (λ m. refl) same_class 0 (per_range n.kind * (length n.interfaces * length more)) (add-zero (own (with_ranges rank more n)) ∙ own-ranges n rank more)
-            (links-kept net (with_ranges rank more) s (λ m. refl) same_class (λ m. refl)) in
+        (links-kept net (with_ranges rank more) s (λ m. refl) same_class (λ m. refl)) in
         sym (add-zero (rule_count (with_net net (with_ranges rank more) s))) ∙ moved
 
     pub rules-asking : (permission : Permission) → rule_count (with_net net (with_permission permission) s) + per_link n.kind * length n.interfaces ≡ rule_count s + per_link (asking_for permission n.kind) * length n.interfaces

@@ -1,6 +1,6 @@
 -- The changes by which no rule comes.
-use Rattle.std.proofs.Common.{◌≡◌, ◌∙◌, ◌≤◌, ◌+◌, ◌*◌, ◌==◌, ℕ, Bool, true, false, cond, not, List, [], ◌∷◌, ◌++◌, Option, Some, None, length, map, filter, refl, sym, ap, ap₂, subst, inl, inr, arith}
-use Rattle.std.specs.Prelude.{◌&&◌, sum_by, find, nat_lt, if◌then◌else◌}
+use Rattle.std.proofs.Common.{◌≡◌, ◌∙◌, ◌≤◌, ◌+◌, ◌==◌, ℕ, Bool, true, false, cond, not, List, [], ◌∷◌, ◌++◌, Option, Some, None, length, filter, refl, sym, ap, subst, inl, inr, arith}
+use Rattle.std.specs.Prelude.{◌&&◌, find, nat_lt, if◌then◌else◌}
 use Rattle.std.specs.Str.{bytes_eq}
 use Rattle.std.proofs.lemmas.Bool.Decides.{nat_tests}
 use Rattle.link_table.specs.declared.link.Link.{Link}
@@ -10,12 +10,12 @@ use Rattle.list_lemmas.proofs.Anys.{length-filter-le}
 use Rattle.list_lemmas.proofs.Numbers.{unlike-sym}
 use Rattle.networks.proofs.Distinct.{are_distinct-filter}
 use Rattle.networks.specs.Kinds.{class_of, is_virtual}
-use Rattle.networks.specs.Lists.{AreKeyed, find_id}
+use Rattle.networks.specs.Lists.{AreKeyed}
 use Rattle.policy_state.specs.Counts.{rule_count}
 use Rattle.policy_state.specs.Good.{IsGood, IsWellFormed, most_rules}
 use Rattle.policy_state.specs.Rows.{is_default, links_of, default_among}
 use Rattle.policy_state.specs.Step.{with_net, with_new_net, without_net, without_interface, without_link, with_route, without_route, without_ranges, kind_without, with_permission_of, is_in, is_of_user, is_user, is_pair, is_protectable}
-use Rattle.policy_state.specs.Tallies.{own, own_rules, virtuals, default_links, rules_in_all, tallied, share}
+use Rattle.policy_state.specs.Tallies.{own, own_rules, virtuals, default_links, rules_in_all, tallied}
 use Rattle.policy_state.specs.View.{Kind, Local, Physical, Virtual, Network, TetherPair, UserPermission, StateView}
 use Rattle.policy_state.specs.Change.{turned, Fits}
 use Rattle.policy_state.specs.declared.change.Change.{Change}

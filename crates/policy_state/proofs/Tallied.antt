@@ -1,6 +1,6 @@
 -- The rows have as many rules as the tallies say.
 use Rattle.std.proofs.Common.{◌≡◌, ◌∙◌, ◌+◌, ◌*◌, ◌==◌, ℕ, Bool, true, false, cond, not, List, [], ◌∷◌, Option, Some, None, length, map, refl, sym, ap, ap₂, inl, inr, arith}
-use Rattle.std.specs.Prelude.{◌&&◌, sum_by, count_by, if◌then◌else◌}
+use Rattle.std.specs.Prelude.{◌&&◌, sum_by, if◌then◌else◌}
 use Rattle.std.specs.List.{list_any}
 use Rattle.std.proofs.lemmas.Bool.{cases_Bool, and_parts, or_parts, not-true, eqb-true}
 use Rattle.list_lemmas.proofs.Numbers.{unlike-sym}

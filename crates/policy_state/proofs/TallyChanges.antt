@@ -1,20 +1,16 @@
 -- How sums over networks, and the interfaces of the default one, change with the state.
-use Rattle.std.proofs.Common.{◌≡◌, ◌∙◌, ◌≤◌, ◌+◌, ◌==◌, ℕ, Bool, true, false, not, List, [], ◌∷◌, ◌++◌, Option, Some, None, length, map, filter, refl, sym, ap, ap₂, subst, inl, inr, arith}
-use Rattle.std.specs.Prelude.{◌&&◌, sum_by, find, option_and_then, if◌then◌else◌}
+use Rattle.std.proofs.Common.{◌≡◌, ◌∙◌, ◌≤◌, ◌+◌, ◌==◌, ℕ, Bool, true, false, not, List, [], ◌∷◌, ◌++◌, Option, Some, None, map, filter, refl, sym, ap, ap₂, inl, inr, arith}
+use Rattle.std.specs.Prelude.{sum_by}
 use Rattle.std.specs.List.{list_any}
 use Rattle.std.specs.Option.{option_map, option_map_or}
-use Rattle.std.proofs.lemmas.Bool.{cases_Bool, false≢true, and_parts, or_parts, not-true, eqb-true, eq-eqb}
-use Rattle.std.proofs.lemmas.Option.{none-some, same_Some}
-use Rattle.std.proofs.lemmas.List.Sums.{sum_by-cons, sum_by-append, sum_by-le-sum_by}
+use Rattle.std.proofs.lemmas.Bool.{cases_Bool, and_parts, or_parts, not-true, eqb-true, eq-eqb}
+use Rattle.std.proofs.lemmas.Option.{none-some}
+use Rattle.std.proofs.lemmas.List.Sums.{sum_by-cons, sum_by-append}
 use Rattle.list_lemmas.proofs.Numbers.{eqb-turned}
-use Rattle.networks.specs.Kinds.{class_of, is_physical}
 use Rattle.networks.specs.Lists.{AreKeyed, are_distinct, find_id}
-use Rattle.policy_state.specs.Good.{IsWellFormed, is_default_there}
-use Rattle.policy_state.specs.Rows.{is_default, links_of, default_among, default_of}
-use Rattle.policy_state.specs.Step.{with_net}
-use Rattle.policy_state.specs.Tallies.{share, default_links}
-use Rattle.policy_state.specs.View.{Network, StateView}
-use Rattle.policy_state.proofs.NetworkChanges.{with_change, untouched, if_physical, default-found, default-none}
+use Rattle.policy_state.specs.Tallies.{share}
+use Rattle.policy_state.specs.View.{Network}
+use Rattle.policy_state.proofs.NetworkChanges.{with_change, untouched}
 
 -- sums
 
@@ -120,10 +116,24 @@ module _ (f : Network → ℕ) (net : ℕ) where
     pub share-changed : (ns : List Network) → AreKeyed ns → sum_by f (with_change net change ns) + share f net ns ≡ sum_by f ns + share (λ n. f (change n)) net ns
     share-changed [] keyed = refl
     share-changed (n ∷ ns) keyed = elim (cases_Bool (net == n.id)) as (λ _. sum_by f (with_change net change (n ∷ ns)) + share f net (n ∷ ns) ≡ sum_by f (n ∷ ns) + share (λ m. f (change m)) net (n ∷ ns)) [
-      | inl e ↦ omega (arith, share-here n ns e, share-at (λ m. f (change m)) net (n ∷ ns) (Some n) (find-here net n ns e), ap (sum_by f) (changed-here n ns e),
-          sum_by-cons f (change n) (with_change net change ns), sum_by-cons f n ns, ap (sum_by f) (untouched net change ns (absent-at n ns keyed e)))
-      | inr e ↦ omega (arith, share-later n ns e, share-at (λ m. f (change m)) net (n ∷ ns) (find_id net ns) (find-later net n ns e), ap (sum_by f) (changed-later n ns e),
-          sum_by-cons f n (with_change net change ns), sum_by-cons f n ns, share-changed ns (rest-keyed n ns keyed))
+      | inl e ↦ omega (
+        arith,
+        share-here n ns e,
+        share-at (λ m. f (change m)) net (n ∷ ns) (Some n) (find-here net n ns e),
+        ap (sum_by f) (changed-here n ns e),
+        sum_by-cons f (change n) (with_change net change ns),
+        sum_by-cons f n ns,
+        ap (sum_by f) (untouched net change ns (absent-at n ns keyed e)),
+      )
+      | inr e ↦ omega (
+        arith,
+        share-later n ns e,
+        share-at (λ m. f (change m)) net (n ∷ ns) (find_id net ns) (find-later net n ns e),
+        ap (sum_by f) (changed-later n ns e),
+        sum_by-cons f n (with_change net change ns),
+        sum_by-cons f n ns,
+        share-changed ns (rest-keyed n ns keyed),
+      )
     ]
 
     -- no more, where it has no more

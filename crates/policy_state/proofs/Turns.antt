@@ -1,15 +1,14 @@
 -- The changes of stored networks are those of a state's networks.
-use Rattle.std.proofs.Common.{◌≡◌, ◌∙◌, ℕ, ◌==◌, Bool, true, false, not, List, [], ◌∷◌, map, filter, Option, Some, None, if◌then◌else◌, refl, sym, ap, subst, inl, inr}
-use Rattle.std.specs.List.{list_any, find}
+use Rattle.std.proofs.Common.{◌≡◌, ◌∙◌, ℕ, ◌==◌, true, false, not, List, [], ◌∷◌, map, filter, Some, None, refl, sym, ap, subst, inl, inr}
+use Rattle.std.specs.List.{list_any}
 use Rattle.std.specs.Option.{option_map}
-use Rattle.std.proofs.lemmas.Bool.{cases_Bool, and_parts, or_parts, not-true, eqb-true, false_from_ne_true, both_ways}
-use Rattle.std.proofs.lemmas.Option.{none-some, same_Some}
+use Rattle.std.proofs.lemmas.Bool.{cases_Bool, and_parts, or_parts, not-true, eqb-true}
+use Rattle.std.proofs.lemmas.Option.{none-some}
 use Rattle.fwmark.specs.declared.permission.Permission.{Permission}
 use Rattle.list_lemmas.proofs.Numbers.{unlike-sym}
 use Rattle.network_store.specs.Store.{with_net as stored_with_net}
 use Rattle.network_store.specs.Stored as stored
 use Rattle.network_store.proofs.Owners.{found-by-id}
-use Rattle.networks.specs.Kinds.{ranges_of}
 use Rattle.networks.specs.Lists.{find_id, find_link, drop_net, are_distinct, AreKeyed}
 use Rattle.networks.specs.Network.{has_link}
 use Rattle.networks.specs.declared.kind.Kind.{Kind}
@@ -18,7 +17,7 @@ use Rattle.policy_state.specs.Good.{IsWellFormed}
 use Rattle.policy_state.specs.Step.{with_net, with_link, with_permission, with_ranges, without_ranges, asking_for, kind_with, kind_without, is_in}
 use Rattle.policy_state.specs.View.{StateView, Network}
 use Rattle.policy_state.proofs.NetworkChanges.{with_change, untouched, ids-distinct}
-use Rattle.policy_state.proofs.Owners.{Has, find-has, any-from}
+use Rattle.policy_state.proofs.Owners.{Has}
 use Rattle.uid_ranges.specs.declared.range.UidRange.{UidRange}
 
 module _ (net : ℕ) where

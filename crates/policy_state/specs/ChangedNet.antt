@@ -1,5 +1,5 @@
 -- The one network that a change may touch, and what it has of the tallies.
-use Rattle.std.specs.Prelude.{◌+◌, ℕ, List, Option, Some, None, cond}
+use Rattle.std.specs.Prelude.{ℕ, List, Option, Some, None, cond}
 use Rattle.networks.specs.Kinds.{is_virtual}
 use Rattle.policy_state.specs.Tallies.{own, share}
 use Rattle.policy_state.specs.View.{Network}

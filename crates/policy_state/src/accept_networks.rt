@@ -84,11 +84,7 @@ impl Parts {
         Ok(Change::NetworkGoes { net })
     }
 
-    pub(crate) fn interface_comes(
-        &self,
-        net: u16,
-        name: &Name,
-    ) -> Result<Change<'static>, Code>
+    pub(crate) fn interface_comes(&self, net: u16, name: &Name) -> Result<Change<'static>, Code>
         requires { IsGood (view_of self.now) }
         ensures code { result_err result ≡ step.first_that_holds
             (step.reasons (view_of self.now) (command.InterfaceAdd net name.now)) }
@@ -116,11 +112,7 @@ impl Parts {
         Ok(Change::InterfaceComes { net, link })
     }
 
-    pub(crate) fn interface_goes(
-        &self,
-        net: u16,
-        name: &Name,
-    ) -> Result<Change<'static>, Code>
+    pub(crate) fn interface_goes(&self, net: u16, name: &Name) -> Result<Change<'static>, Code>
         requires { IsGood (view_of self.now) }
         ensures code { result_err result ≡ step.first_that_holds
             (step.reasons (view_of self.now) (command.InterfaceRemove net name.now)) }

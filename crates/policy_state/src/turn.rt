@@ -65,7 +65,9 @@ fn own_of(network: &StoredNetwork) -> u64
 {
     let links = network.interfaces.len() as u64;
     let ranges = network.kind.ranges().len() as u64;
-    alone(&network.kind) + per_link(&network.kind) * links + per_range(&network.kind) * (links * ranges)
+    alone(&network.kind)
+        + per_link(&network.kind) * links
+        + per_range(&network.kind) * (links * ranges)
 }
 
 impl Parts {

@@ -1,4 +1,4 @@
-use Rattle.std.proofs.Common.{◌≡◌, ◌∙◌, true, sym, ap, rules}
+use Rattle.std.proofs.Common.{◌≡◌, ◌∙◌, true, sym, ap}
 use Rattle.std.specs.Prelude.{nat_lt}
 use Rattle.net_names.specs.declared.code.Code.TheVariants as code
 use Rattle.policy_state.specs.Counts.{rule_count}
@@ -19,5 +19,5 @@ pub returns-then-has_too_many_rules-clause-code : goal.returns-then-has_too_many
 returns-then-has_too_many_rules-clause-code c =
     let s : StateView = view_of c.args.self.now in
     let past : has_too_many_rules s c.args.command.now ≡ true =
-        ap (λ (t : StateView). nat_lt most_rules (rule_count t)) (sym c.in-Ok.ensures.makes.turned) ∙ (sym c.has_too_many_rules.ensures ∙ c.if-has_too_many_rules.true) in
+    ap (λ (t : StateView). nat_lt most_rules (rule_count t)) (sym c.in-Ok.ensures.makes.turned) ∙ (sym c.has_too_many_rules.ensures ∙ c.if-has_too_many_rules.true) in
     sym (first-last (reasons s c.args.command.now) (because code.NoSpace (has_too_many_rules s c.args.command.now)) (sym c.in-Ok.ensures.code) past)

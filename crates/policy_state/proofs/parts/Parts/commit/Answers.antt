@@ -1,4 +1,4 @@
-use Rattle.std.proofs.Common.{◌≡◌, ◌∙◌, sym, ap, subst}
+use Rattle.std.proofs.Common.{◌∙◌, sym, ap, subst}
 use Rattle.policy_state.specs.Change.{turned, Fits, InterfaceFits}
 use Rattle.policy_state.specs.Parts.{view_of}
 use Rattle.policy_state.specs.Step.{with_route, without_route}

@@ -1,4 +1,4 @@
-use Rattle.std.proofs.Common.{◌≤◌, ℕ, sym, ap, subst}
+use Rattle.std.proofs.Common.{◌≤◌, sym, subst}
 use Rattle.policy_state.specs.Parts.{view_of}
 use Rattle.policy_state.specs.declared.count.Tallies.{Tallies}
 use Rattle.policy_state.proofs.CountsAfter.{own-few, virtuals-few}

@@ -1,4 +1,4 @@
-use Rattle.std.proofs.Common.{◌≡◌, ◌∙◌, true, Some, sym, rules}
+use Rattle.std.proofs.Common.{◌≡◌, true, Some, sym, rules}
 use Rattle.network_store.specs.Stored.{net_of}
 use Rattle.networks.specs.Lists.{find_id}
 use Rattle.networks.specs.Network.{has_link}

@@ -1,6 +1,5 @@
-use Rattle.std.proofs.Common.{◌≡◌, ◌==◌, ℕ, Some}
+use Rattle.std.proofs.Common.{◌==◌}
 use Rattle.network_store.specs.Stored.{net_of}
-use Rattle.networks.specs.Lists.{find_id}
 use Rattle.policy_state.specs.Good.{IsNetwork}
 use Rattle.policy_state.specs.Parts.{view_of}
 use Rattle.policy_state.specs.View.{Network, StateView}

@@ -1,11 +1,10 @@
-use Rattle.std.proofs.Common.{◌≡◌, ◌∙◌, ◌≤◌, ◌+◌, ◌-◌, ◌*◌, ℕ, Bool, true, false, not, Some, None, length, sym, ap, ap₂, refl, rules, arith}
-use Rattle.network_store.specs.Stored.{net_of, kind_of}
-use Rattle.networks.specs.Lists.{find_id}
+use Rattle.std.proofs.Common.{◌≡◌, ◌∙◌, ◌*◌, ℕ, true, false, length, sym, ap, ap₂, rules, arith}
+use Rattle.network_store.specs.Stored.{net_of}
 use Rattle.networks.specs.Kinds.{is_physical}
 use Rattle.policy_state.specs.Counts.{rule_count}
 use Rattle.policy_state.specs.Parts.{view_of}
-use Rattle.policy_state.specs.Step.{with_net, with_permission, asking_for}
-use Rattle.policy_state.specs.Tallies.{per_link, per_link_asking}
+use Rattle.policy_state.specs.Step.{with_permission, asking_for}
+use Rattle.policy_state.specs.Tallies.{per_link}
 use Rattle.policy_state.specs.View.{Network, StateView}
 use Rattle.policy_state.proofs.CountsAfter.{absent, asking-physical, asking-other, rules-asking}
 use Rattle.policy_state.proofs.parts.Parts.rules_asking.Goals as goal
@@ -33,7 +32,7 @@ overflow_sub-result c =
     let moved = rules-asking s c.requires.good.formed c.args.net n (sym c.in-Some.ensures) c.args.permission in
     let old : c.per_link.result * c.len-links.result ≡ per_link n.kind * length n.interfaces = ap₂ (λ (a b : ℕ). a * b) c.per_link.ensures.value c.len-links.ensures.value in
     let new : c.per_link_asking.result * c.len-links.result ≡ per_link (asking_for c.args.permission n.kind) * length n.interfaces =
-        ap₂ (λ (a b : ℕ). a * b) (c.per_link_asking.ensures.value ∙ sym (asking-physical c.args.permission n.kind physical)) c.len-links.ensures.value in
+    ap₂ (λ (a b : ℕ). a * b) (c.per_link_asking.ensures.value ∙ sym (asking-physical c.args.permission n.kind physical)) c.len-links.ensures.value in
     omega (arith, moved, old, new, c.rule_count-2.ensures.value)
 
 pub returns : goal.returns
@@ -44,5 +43,5 @@ returns c =
     let moved = rules-asking s c.requires.good.formed c.args.net n (sym c.in-Some.ensures) c.args.permission in
     let old : c.per_link.result * c.len-links.result ≡ per_link n.kind * length n.interfaces = ap₂ (λ (a b : ℕ). a * b) c.per_link.ensures.value c.len-links.ensures.value in
     let new : c.per_link_asking.result * c.len-links.result ≡ per_link (asking_for c.args.permission n.kind) * length n.interfaces =
-        ap₂ (λ (a b : ℕ). a * b) (c.per_link_asking.ensures.value ∙ sym (asking-physical c.args.permission n.kind physical)) c.len-links.ensures.value in
+    ap₂ (λ (a b : ℕ). a * b) (c.per_link_asking.ensures.value ∙ sym (asking-physical c.args.permission n.kind physical)) c.len-links.ensures.value in
     omega (arith, moved, old, new, c.rule_count-2.ensures.value)

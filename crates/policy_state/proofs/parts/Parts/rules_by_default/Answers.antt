@@ -1,5 +1,4 @@
-use Rattle.std.proofs.Common.{◌≡◌, ◌∙◌, ◌≤◌, ◌+◌, ◌-◌, ◌*◌, ℕ, length, sym, ap, ap₂, arith}
-use Rattle.policy_state.specs.Counts.{rule_count}
+use Rattle.std.proofs.Common.{◌≡◌, ◌+◌, ◌*◌, ℕ, length, ap, ap₂, arith}
 use Rattle.policy_state.specs.Parts.{view_of}
 use Rattle.policy_state.specs.Rows.{default_among, links_of}
 use Rattle.policy_state.specs.Tallies.{default_links, virtuals}

@@ -1,9 +1,8 @@
-use Rattle.std.proofs.Common.{◌≡◌, ◌∙◌, ◌+◌, ◌*◌, ℕ, length, sym, ap, ap₂, arith}
+use Rattle.std.proofs.Common.{◌∙◌, ◌+◌, ◌*◌, ℕ, sym, ap, ap₂}
 use Rattle.network_store.specs.Stored.{net_of}
 use Rattle.policy_state.specs.Counts.{rule_count}
 use Rattle.policy_state.specs.Parts.{view_of}
 use Rattle.policy_state.specs.Step.{with_ranges}
-use Rattle.policy_state.specs.Tallies.{per_range}
 use Rattle.policy_state.specs.View.{Network, StateView}
 use Rattle.policy_state.proofs.CountsAfter.{absent, rules-with_ranges}
 use Rattle.policy_state.proofs.parts.Parts.rules_with_ranges.Goals as goal

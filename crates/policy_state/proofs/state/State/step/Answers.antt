@@ -1,8 +1,7 @@
-use Rattle.std.proofs.Common.{◌≡◌, ◌∙◌, None, sym, ap, subst, rules}
-use Rattle.policy_state.specs.Change.{turned}
+use Rattle.std.proofs.Common.{◌≡◌, ◌∙◌, None, sym, subst}
 use Rattle.policy_state.specs.Good.{IsGood}
 use Rattle.policy_state.specs.Parts.{view_of}
-use Rattle.policy_state.specs.Step.{refusal, changed}
+use Rattle.policy_state.specs.Step.{refusal}
 use Rattle.policy_state.specs.View.{StateView}
 use Rattle.policy_state.proofs.Goodness.{good-changed}
 use Rattle.policy_state.proofs.state.State.step.Goals as goal
