@@ -1,7 +1,7 @@
 use Rattle.std.proofs.Common.{rules, ◌≡◌, ◌∙◌, ◌≤◌, ◌++◌, ℕ, List, Option, Ok, length, ap, sym, arith}
 use Rattle.kernel_model.specs.Form.{AreWellFormed}
-use Rattle.kernel_model.specs.Journal.{replay}
-use Rattle.kernel_model.specs.View.{KernelView}
+use Rattle.kernel_model.specs.State.{KernelState}
+use Rattle.kernel_model.specs.View.{KernelView, state_of}
 use Rattle.kernel_model.specs.declared.request.Entry.{Entry}
 use Rattle.net_control.specs.Applied.{IsAnswered}
 use Rattle.net_control.specs.Bounds.{KeepsLimit}
@@ -14,7 +14,7 @@ use Rattle.policy_state.specs.View.{StateView}
 use Rattle.rule_match.specs.declared.packet.Packet.{Packet}
 use Rattle.turn_text.specs.declared.answer.Answer.TheVariants as answer
 use Rattle.netd_session.specs.Watches.{noted_text, requests_text}
-use Rattle.netd_session.proofs.Unwatched.{answered_under, bounded_under, caused_under, few_under, kept_under, locked_under, moments_under, moved, moved_journals, moved_one, once_under, said_under, sends_under}
+use Rattle.netd_session.proofs.Unwatched.{answered_under, bounded_under, caused_under, few_under, kept_under, locked_under, moments_under, moved, moved_journals, moved_one, moved_states, once_under, said_under, sends_under}
 use Rattle.netd_session.proofs.command.apply_watched.Goals as goal
 
 pub put_requests-requires : goal.put_requests-requires
@@ -82,9 +82,9 @@ returns-clause-once g c =
 
 pub returns-clause-as_before : goal.returns-clause-as_before
 returns-clause-as_before g c =
-    moved_journals (λ (i j : List Entry). (request : ℕ) → c.apply-result.result ≡ Ok (answer.KernelRefused request) → replay j ≡ replay i) _ _
-    (g.K.Kernel.seen c.new-watched.result.inner.now).journal (g.K.Kernel.seen c.apply-result.new.kernel.inner.now).journal
-    (search rules) (search rules) c.apply-result.ensures.as_before
+    moved_states (λ (i j : KernelState). (request : ℕ) → c.apply-result.result ≡ Ok (answer.KernelRefused request) → j ≡ i) _ _
+    (state_of (g.K.Kernel.seen c.new-watched.result.inner.now)) (state_of (g.K.Kernel.seen c.apply-result.new.kernel.inner.now))
+    (ap state_of (sym c.new-watched.ensures.view)) (first_of (search rules, grind arith, cc)) c.apply-result.ensures.as_before
 
 pub returns-clause-kept : goal.returns-clause-kept
 returns-clause-kept g c =
