@@ -7,6 +7,7 @@ pub mod Growing
 pub mod Keeping
 pub mod Taking
 pub mod Traces
+pub mod Opened
 pub mod Starting
 pub mod Passing
 pub mod SessionPass

@@ -2,6 +2,7 @@
 use Rattle.std.proofs.Common.{◌≡◌, ◌∙◌, ◌⊎◌, ℕ, ◌≤◌, List, [], ◌∷◌, length, Option, Result, Ok, Err, inl, inr, sym, ap, subst}
 use Rattle.std.specs.declared.alloc.AllocError.{AllocError}
 use Rattle.commands.specs.declared.command.Command.{Command}
+use Rattle.kernel_model.specs.State.{KernelState}
 use Rattle.kernel_model.specs.View.{KernelView, Watching, grown}
 use Rattle.kernel_model.specs.declared.request.Entry.{Entry}
 use Rattle.net_control.specs.Applied.{IsAnswered, IsTaken}
@@ -40,6 +41,12 @@ moved_one P l l0 b is = subst P (sym b) is
 
 pub moved : (P : KernelView → KernelView → Type 0) (k l k0 l0 : KernelView) → k ≡ k0 → l ≡ l0 → P k0 l0 → P k l
 moved P k l k0 l0 a b is = subst (λ (v : KernelView). P v l) (sym a) (subst (P k0) (sym b) is)
+
+pub moved_journals : (P : List Entry → List Entry → Type 0) (i j i0 j0 : List Entry) → i ≡ i0 → j ≡ j0 → P i0 j0 → P i j
+moved_journals P i j i0 j0 a b is = subst (λ (x : List Entry). P x j) (sym a) (subst (P i0) (sym b) is)
+
+pub moved_states : (P : KernelState → KernelState → Type 0) (i j i0 j0 : KernelState) → i ≡ i0 → j ≡ j0 → P i0 j0 → P i j
+moved_states P i j i0 j0 a b is = subst (λ (x : KernelState). P x j) (sym a) (subst (P i0) (sym b) is)
 
 -- the kernel before and after, each with the watch that it has then
 module _ (k l : KernelView) (p q : Option Packet) (m n a b : ℕ) where

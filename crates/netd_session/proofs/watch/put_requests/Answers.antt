@@ -43,7 +43,7 @@ pub returns-clause-text : goal.returns-clause-text
 returns-clause-text g c =
     let changes : List (ℕ × Verdict) = changes_since c.args.watched.now.packet c.args.watched.now.since (g.K.Kernel.seen c.args.watched.now.inner.now).journal in
     c.loop-place.invariant.text
-    ∙ ap (λ (seen : List (ℕ × Verdict)). c.args.out.now.items ++ noted_text c.args.number c.args.state.now seen) (take_all c.loop-place.place changes (omega (arith, c.loop-place-test.false, c.seen_count.ensures)))
+    ∙ ap (λ (seen : List (ℕ × Verdict)). c.args.out.now.items ++ noted_text c.args.number c.args.state.now seen) (take_all c.loop-place.place changes (omega (arith, c.loop-place-test.false, c.seen_count-place-end.ensures)))
 
 pub returns-clause-room : goal.returns-clause-room
-returns-clause-room g c = omega (arith, c.loop-place.invariant.room, c.loop-place.auto.place-end, c.seen_count.ensures)
+returns-clause-room g c = omega (arith, c.loop-place.invariant.room, c.loop-place.auto.place-end, c.seen_count-place-end.ensures)

@@ -20,7 +20,7 @@ returns-clause-answers g c =
         text = c.put_answer.ensures
             ∙ ap (λ (xs : List ℕ). xs ++ numbered c.args.number (answer_text c.in_ok-answer.answer))
             (c.in_ok-answer.ensures.text
-            ∙ ap (λ (xs : List ℕ). xs ++ requests_text c.args.number c.apply_watched-answer.new.controller.state c.watched_packet-packet.result (g.K.Kernel.seen c.args.kernel.now) (g.K.Kernel.seen c.apply_watched-answer.new.kernel))
+            ∙ ap (λ (xs : List ℕ). xs ++ requests_text c.args.number c.apply_watched.new.controller.state c.watched_packet-packet.result (g.K.Kernel.seen c.args.kernel.now) (g.K.Kernel.seen c.apply_watched.new.kernel))
             (c.make_room.ensures.answer ∙ c.requires.empty));
         sockets_stay = refl;
         watch_stays = refl;
