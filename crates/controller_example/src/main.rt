@@ -14,7 +14,7 @@ use policy_state::{Command, Way};
 use prefixes::{Addr, Prefix};
 use sim_kernel::SimKernel;
 use std::alloc::{AllocError, Global};
-use std::io;
+use std::io::{self, Write};
 use std::process::ExitCode;
 use turn_text::Answer;
 use uid_ranges::{Uid, UidRange};
