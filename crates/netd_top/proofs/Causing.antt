@@ -11,12 +11,13 @@ use Rattle.netd_session.specs.Stops.{End, goes_on, status_of}
 use Rattle.netd_session.specs.Telling.{IsTaken, MakesAndTells, no_memory, sink_failed, taken_whole}
 use Rattle.net_io.specs.Streams.{SinkView, SourceView}
 use Rattle.net_control.specs.Causes.{BrokeSome}
-use Rattle.netd_session.specs.World.{World, streams_of}
+use Rattle.netd_session.specs.World.{World, streams_of, world}
 use Rattle.netd_session.specs.declared.end.Status.{Status}
 use Rattle.netd_session.specs.declared.end.Status.TheVariants as status
 use Rattle.netd_session.specs.declared.end.Stop.TheVariants as stop
 use Rattle.netd_top.specs.Causes.{EndsSoak, HaveNoForm, HasRunCauses, RanCheck, RanSession}
 use Rattle.netd_top.specs.Soak.{HasSoaked, SaysSums, made_world}
+use Rattle.script_gen.specs.Script.{script_text}
 use Rattle.netd_top.specs.Run.{DoesForm, DoesRun, TellsUsage, usage_status, usage_text, with_lists}
 
 -- words have one form
@@ -168,33 +169,34 @@ soak_has_words s (inr (inl is)) e = absurd cc
 soak_has_words s (inr (inr is)) e = absurd cc
 
 -- where a deletion broke the session didn't reach its end, so the sums were not told
-soak_broke : (seed count : ℕ) (old new : World) (s : Status) → HasSoaked seed count old new s → BrokeSome old.kernel new.kernel → s ≡ status.Stopped stop.Memory
+soak_broke : (seed count : ℕ) (old new : World) (s : Status) → HasSoaked seed count old.kernel new.kernel old.sink new.sink s → BrokeSome old.kernel new.kernel → s ≡ status.Stopped stop.Memory
 soak_broke seed count old new s did broke = by did.told
   where
     inner : Status
     inner = status_of did.ended.result
 
-    broke_inner : BrokeSome (made_world old.kernel seed count).kernel did.after.kernel
-    broke_inner = subst (λ (k : KernelView). BrokeSome old.kernel k) did.kernel_is broke
+    broke_inner : BrokeSome (made_world old.kernel (script_text seed count)).kernel did.ran.after.kernel
+    broke_inner = subst (λ (k : KernelView). BrokeSome old.kernel k) did.ran.kernel_is broke
 
     stopped : (inner ≡ status.Stopped stop.Halted) ⊎ ((inner ≡ status.Stopped stop.WriteFault) ⊎ (inner ≡ status.Stopped stop.Memory))
-    stopped = (caused_session (made_world old.kernel seed count) did.after did.ended did.did).0.halted.there broke_inner
+    stopped = (caused_session (made_world old.kernel (script_text seed count)) did.ran.after did.ended did.ran.did).0.halted.there broke_inner
 
-    no : (t : Status) → t ≡ status.Finished → (t ≡ status.Stopped stop.Halted) ⊎ ((t ≡ status.Stopped stop.WriteFault) ⊎ (t ≡ status.Stopped stop.Memory)) → ⊥
-    no t is (inl e) = absurd cc
-    no t is (inr (inl e)) = absurd cc
-    no t is (inr (inr e)) = absurd cc
+    no_end : (t : Status) → t ≡ status.Finished → (t ≡ status.Stopped stop.Halted) ⊎ ((t ≡ status.Stopped stop.WriteFault) ⊎ (t ≡ status.Stopped stop.Memory)) → ⊥
+    no_end t is (inl e) = absurd cc
+    no_end t is (inr (inl e)) = absurd cc
+    no_end t is (inr (inr e)) = absurd cc
 
-    by : SaysSums did.ended did.after.kernel s old.sink new.sink → s ≡ status.Stopped stop.Memory
-    by (inl (result, goes, told, is)) = absurd (no inner (ap status_of goes) stopped)
+    by : SaysSums did.ended new.kernel s old.sink new.sink → s ≡ status.Stopped stop.Memory
+    by (inl (result, goes, told, is)) = absurd (no_end inner (ap status_of goes) stopped)
     by (inr (is, same)) = is
 
 -- words of the form `soak`
-soaked : OneForm → (words : List (List ℕ)) (seed count : ℕ) (old new : World) (s : Status) → IsForm words (soak seed count) → HasSoaked seed count old new s → HasRunCauses words old new s
-soaked one words seed count old new s is did =
-    let told = soak_told did.ended did.after.kernel s old.sink new.sink did.told in record {
+soaked : OneForm → (words : List (List ℕ)) (seed count : ℕ) (old new : World) (s : Status) → IsForm words (soak seed count) → HasSoaked seed count old.kernel new.kernel old.sink new.sink s
+    → new.source ≡ old.source → HasRunCauses words old new s
+soaked one words seed count old new s is did source_is =
+    let told = soak_told did.ended new.kernel s old.sink new.sink did.told in record {
       bad_words = record { only = λ e. absurd (soak_has_words s told.0 e); there = λ none. absurd (none (soak seed count) is) };
-      read_fault = ((λ e. absurd (soak_no_read_fault s told.0 e)), (λ more. absurd (let same = ap (λ (v : SourceView). v.faults) did.source_is in omega (arith, more, same))));
+      read_fault = ((λ e. absurd (soak_no_read_fault s told.0 e)), (λ more. absurd (let same = ap (λ (v : SourceView). v.faults) source_is in omega (arith, more, same))));
       write_fault = told.1;
       halted = record {
         only = λ e. absurd (soak_not_halted s told.0 e);
@@ -202,14 +204,21 @@ soaked one words seed count old new s is did =
       };
       session = λ refuse breaks other. absurd (let same : soak seed count ≡ run refuse breaks = one words (soak seed count) (run refuse breaks) is other in cc);
       check = λ other. absurd (let same : soak seed count ≡ wordless Check = one words (soak seed count) (wordless Check) is other in cc);
-      soak = λ t n other. (told.0, did.source_is);
+      soak = λ t n other. (told.0, source_is);
     }
+
+-- nothing was done: a kernel, a sink and a source that are the same are the same world
+pub same_world : (old new : World) → new.kernel ≡ old.kernel → new.sink ≡ old.sink → new.source ≡ old.source → new ≡ old
+same_world old new kernel sink source =
+    ap (λ (x : SourceView). world x new.sink new.kernel) source
+    ∙ ap (λ (x : SinkView). world old.source x new.kernel) sink
+    ∙ ap (λ (x : KernelView). world old.source old.sink x) kernel
 
 pub run_causes : OneForm → (words : List (List ℕ)) (old new : World) (s : Status) → DoesRun words old new s → HasRunCauses words old new s
 run_causes one words old new s (inl (run refuse breaks, is, does)) = ran one words refuse breaks old new s is does
 run_causes one words old new s (inl (wordless Check, is, does)) = checked one words old new s is does
-run_causes one words old new s (inl (soak seed count, is, inl did)) = soaked one words seed count old new s is did
-run_causes one words old new s (inl (soak seed count, is, inr (told, same))) = without_memory words old new s told same
+run_causes one words old new s (inl (soak seed count, is, (inl did, source_is))) = soaked one words seed count old new s is did source_is
+run_causes one words old new s (inl (soak seed count, is, (inr (told, kernel_is, sink_is), source_is))) = without_memory words old new s told (same_world old new kernel_is sink_is source_is)
 run_causes one words old new s (inr (inl (none, usage))) = told words old new s none usage
 run_causes one words old new s (inr (inr (is, same))) = without_memory words old new s is same
 
@@ -217,8 +226,8 @@ run_causes one words old new s (inr (inr (is, same))) = without_memory words old
 pub run_in_order : (words : List (List ℕ)) (old new : World) (s : Status) → DoesRun words old new s → old.kernel.journal ≡ [] → IsInOrder new.kernel
 run_in_order words old new s (inl (run refuse breaks, is, (ended, did, told))) none = session_in_order (with_lists old refuse breaks) new ended did none
 run_in_order words old new s (inl (wordless Check, is, (result, did, told, kept))) none = nothing_asked new.kernel (ap (λ (k : KernelView). k.journal) kept ∙ none)
-run_in_order words old new s (inl (soak seed count, is, inl did)) none =
-    subst IsInOrder (sym did.kernel_is) (session_in_order (made_world old.kernel seed count) did.after did.ended did.did none)
-run_in_order words old new s (inl (soak seed count, is, inr (told, same))) none = nothing_asked new.kernel (ap (λ (w : World). w.kernel.journal) same ∙ none)
+run_in_order words old new s (inl (soak seed count, is, (inl did, source_is))) none =
+    subst IsInOrder (sym did.ran.kernel_is) (session_in_order (made_world old.kernel (script_text seed count)) did.ran.after did.ended did.ran.did none)
+run_in_order words old new s (inl (soak seed count, is, (inr (told, kernel_is, sink_is), source_is))) none = nothing_asked new.kernel (ap (λ (k : KernelView). k.journal) kernel_is ∙ none)
 run_in_order words old new s (inr (inl (no_form, usage))) none = nothing_asked new.kernel (ap (λ (w : World). w.kernel.journal) usage.rest ∙ none)
 run_in_order words old new s (inr (inr (is, same))) none = nothing_asked new.kernel (ap (λ (w : World). w.kernel.journal) same ∙ none)

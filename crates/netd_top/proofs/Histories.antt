@@ -9,10 +9,11 @@ use Rattle.netd_session.specs.History.{History}
 use Rattle.netd_session.specs.Stops.{status_of}
 use Rattle.netd_session.specs.World.{World}
 use Rattle.netd_session.specs.declared.end.Status.{Status}
-use Rattle.netd_top.proofs.Causing.{OneForm}
+use Rattle.netd_top.proofs.Causing.{OneForm, same_world}
 use Rattle.netd_top.specs.History.{DidNothing, HasHistory, HasRunHistory}
 use Rattle.netd_top.specs.Run.{DoesRun, with_lists}
 use Rattle.netd_top.specs.Soak.{made_world}
+use Rattle.script_gen.specs.Script.{script_text}
 use Rattle.policy_meaning.specs.Policy.{policy}
 use Rattle.policy_state.specs.View.{start}
 use Rattle.rule_match.specs.declared.packet.Packet.{Packet}
@@ -29,11 +30,11 @@ module _ (words : List (List ℕ)) (old new : World) (s : Status) (one : OneForm
   of_soak : (seed count : ℕ) → IsForm words (soak seed count) → DoesRun words old new s → ((ended : Status) × HasHistory ended new) ⊎ DidNothing old new s
   of_soak seed count form (inl (run r b, is, does)) = absurd (let same : run r b ≡ soak seed count = one words (run r b) (soak seed count) is form in cc)
   of_soak seed count form (inl (wordless only, is, does)) = absurd (let same : wordless only ≡ soak seed count = one words (wordless only) (soak seed count) is form in cc)
-  of_soak seed count form (inl (soak seed' count', is, inl did)) =
-      inl (status_of did.ended.result, did.ended.turns, did.did.lines,
-      subst (λ (k : KernelView). History (status_of did.ended.result) did.ended.turns did.did.lines k.journal) (sym did.kernel_is)
-      (session_history (made_world old.kernel seed' count') did.after did.ended means none did.did))
-  of_soak seed count form (inl (soak seed' count', is, inr nothing_done)) = inr nothing_done
+  of_soak seed count form (inl (soak seed' count', is, (inl did, source_is))) =
+      inl (status_of did.ended.result, (did.ended.turns, did.ran.did.lines,
+      subst (λ (k : KernelView). History (status_of did.ended.result) did.ended.turns did.ran.did.lines k.journal) (sym did.ran.kernel_is)
+      (session_history (made_world old.kernel (script_text seed' count')) did.ran.after did.ended means none did.ran.did)))
+  of_soak seed count form (inl (soak seed' count', is, (inr (told, kernel_is, sink_is), source_is))) = inr (told, same_world old new kernel_is sink_is source_is)
   of_soak seed count form (inr (inl (no_form, told))) = absurd (no_form (soak seed count) form)
   of_soak seed count form (inr (inr nothing_done)) = inr nothing_done
 

@@ -11,6 +11,7 @@ use Rattle.netd_top.proofs.Causing.{OneForm}
 use Rattle.netd_top.specs.History.{FailsWhereListed}
 use Rattle.netd_top.specs.Run.{DoesRun, with_lists}
 use Rattle.netd_top.specs.Soak.{made_world}
+use Rattle.script_gen.specs.Script.{script_text}
 
 nothing_listed : (refuse breaks : List ℕ) → Listed refuse breaks []
 nothing_listed refuse breaks = record { refusals = λ k e is. absurd (none-some e is); broken = λ k e is. absurd (none-some e is) }
@@ -40,9 +41,11 @@ module _ (words : List (List ℕ)) (old new : World) (s : Status) (one : OneForm
   of_soak : (seed count : ℕ) → IsForm words (soak seed count) → DoesRun words old new s → Listed [] [] new.kernel.journal
   of_soak seed count form (inl (run r b, is, does)) = absurd (let same : run r b ≡ soak seed count = one words (run r b) (soak seed count) is form in cc)
   of_soak seed count form (inl (wordless only, is, does)) = absurd (let same : wordless only ≡ soak seed count = one words (wordless only) (soak seed count) is form in cc)
-  of_soak seed count form (inl (soak seed' count', is, inl did)) =
-      subst (λ (l : Option Lists). IfListed l new.kernel.journal) (ap (λ (k : KernelView). k.lists) did.kernel_is ∙ session_lists (made_world old.kernel seed' count') did.after did.ended did.did) sound
-  of_soak seed count form (inl (soak seed' count', is, inr nothing_done)) = asked_nothing [] [] nothing_done.1
+  of_soak seed count form (inl (soak seed' count', is, (inl did, source_is))) =
+      subst (λ (l : Option Lists). IfListed l new.kernel.journal)
+      (ap (λ (k : KernelView). k.lists) did.ran.kernel_is ∙ session_lists (made_world old.kernel (script_text seed' count')) did.ran.after did.ended did.ran.did) sound
+  of_soak seed count form (inl (soak seed' count', is, (inr (told, kernel_is, sink_is), source_is))) =
+      subst (Listed [] []) (sym (ap (λ (k : KernelView). k.journal) kernel_is ∙ none)) (nothing_listed [] [])
   of_soak seed count form (inr (inl (no_form, told))) = absurd (no_form (soak seed count) form)
   of_soak seed count form (inr (inr nothing_done)) = asked_nothing [] [] nothing_done.1
 

@@ -13,7 +13,7 @@ use Rattle.netd_session.specs.World.{World, streams_of}
 use Rattle.netd_session.specs.declared.end.Status.{Status}
 use Rattle.netd_session.specs.declared.end.Status.TheVariants as status
 use Rattle.netd_session.specs.declared.end.Stop.TheVariants as stop
-use Rattle.netd_top.specs.Soak.{HasSoaked}
+use Rattle.netd_top.specs.Soak.{Soaks}
 
 -- a kernel that refuses and breaks what these lists say
 abbrev pub armed : KernelView → List ℕ → List ℕ → KernelView
@@ -33,9 +33,9 @@ DoesForm (run refuse breaks) old new s =
 DoesForm (wordless Check) old new s =
     (result : End) × IsCheck (streams_of old) (streams_of new) result
     × (s ≡ status_of result) × (new.kernel ≡ old.kernel)
--- `soak`: a session over memory on a made script, and its sums; where there is no memory for the script, nothing
+-- `soak`: a session over memory on a made script, and its sums; of the source nothing is read
 DoesForm (soak seed count) old new s =
-    HasSoaked seed count old new s ⊎ ((s ≡ status.Stopped stop.Memory) × (new ≡ old))
+    Soaks seed count old.kernel new.kernel old.sink new.sink s × (new.source ≡ old.source)
 
 -- at most 100,000 lines are drawn
 abbrev pub IsShort : FormView → Type 0

@@ -38,17 +38,31 @@ sums_of turns kernel = record {
   requests = length kernel.journal;
 }
 
-abbrev pub summary : Sums → List ℕ
-summary s =
-    codes "turns " ++ decimal s.turns ++ codes " done " ++ decimal s.done ++ codes " refused " ++ decimal s.refused
-    ++ codes " rules " ++ decimal s.rules ++ codes " requests " ++ decimal s.requests ++ 10 ∷ []
+-- words, and a number after them
+abbrev pub count_text : List ℕ → ℕ → List ℕ
+count_text words n = words ++ decimal n
 
--- the world of that session: a source that holds the made script, an empty sink, and the kernel with empty lists
-abbrev pub made_world : KernelView → ℕ → ℕ → World
-made_world kernel seed count = world
-    (record { left = Some (script_text seed count); faults = 0; ended = false })
+abbrev pub turns_text : Sums → List ℕ
+turns_text s = count_text (codes "turns ") s.turns ++ count_text (codes " done ") s.done ++ count_text (codes " refused ") s.refused
+
+abbrev pub kernel_text : Sums → List ℕ
+kernel_text s = count_text (codes " rules ") s.rules ++ count_text (codes " requests ") s.requests ++ 10 ∷ []
+
+abbrev pub summary : Sums → List ℕ
+summary s = turns_text s ++ kernel_text s
+
+-- the world of that session: a source that holds the script, an empty sink, and the kernel with empty lists
+abbrev pub made_world : KernelView → List ℕ → World
+made_world kernel script = world
+    (record { left = Some script; faults = 0; ended = false })
     (record { bytes = Some []; faults = 0 })
     (record kernel { lists = Some (record { refuse = []; breaks = [] }) })
+
+-- a session over memory, of which the kernel is left
+pub record HasRunOver (script : List ℕ) (old new : KernelView) (ended : EndedView) : Type 0 where
+  pub after : World
+  pub did : IsSession (made_world old script) after ended
+  pub kernel_is : new ≡ after.kernel
 
 -- the session reached the end of its script and its sums were told; or memory ran out in it, and nothing was told
 abbrev pub SaysSums : EndedView → KernelView → Status → (old new : SinkView) → Type 0
@@ -57,11 +71,13 @@ SaysSums ended kernel s old new =
     × (s ≡ status_of result))
     ⊎ ((s ≡ status.Stopped stop.Memory) × (new ≡ old))
 
--- what `soak` did; of the source that was handed in nothing is read
-pub record HasSoaked (seed count : ℕ) (old new : World) (s : Status) : Type 0 where
-  pub after : World
+-- what `soak` did to a kernel and a sink
+pub record HasSoaked (seed count : ℕ) (old new : KernelView) (sink sink_after : SinkView) (s : Status) : Type 0 where
   pub ended : EndedView
-  pub did : IsSession (made_world old.kernel seed count) after ended
-  pub kernel_is : new.kernel ≡ after.kernel
-  pub source_is : new.source ≡ old.source
-  pub told : SaysSums ended after.kernel s old.sink new.sink
+  pub ran : HasRunOver (script_text seed count) old new ended
+  pub told : SaysSums ended new s sink sink_after
+
+-- or there was no memory for the script, and nothing was done
+abbrev pub Soaks : (seed count : ℕ) → (old new : KernelView) → (sink sink_after : SinkView) → Status → Type 0
+Soaks seed count old new sink sink_after s =
+    HasSoaked seed count old new sink sink_after s ⊎ ((s ≡ status.Stopped stop.Memory) × (new ≡ old) × (sink_after ≡ sink))

@@ -1,12 +1,8 @@
-ghost use Rattle.std.specs.Prelude.{◌≡◌, ◌⊎◌, ◌≤◌, [], length};
-ghost use Rattle.kernel_model.specs.View.{KernelView};
-ghost use Rattle.net_io.specs.Streams.{CanCount, SourceView};
+ghost use Rattle.std.specs.Prelude.{◌≡◌, ◌≤◌, [], filter, length};
+ghost use Rattle.net_io.specs.Streams.{CanCount};
 ghost use Rattle.netd_session.specs.Telling.{MakesAndTells};
 ghost use Rattle.netd_session.specs.Stops.{goes_on};
-ghost use Rattle.netd_session.specs.World.{world};
-ghost use Rattle.netd_session.specs.declared.end.Status.TheVariants as status;
-ghost use Rattle.netd_session.specs.declared.end.Stop.TheVariants as stop;
-ghost use Rattle.netd_top.specs.Soak.{HasSoaked, says_done, says_refused, summary, sums_of};
+ghost use Rattle.netd_top.specs.Soak.{HasRunOver, SaysSums, Soaks, count_text, kernel_text, says_done, says_refused, summary, sums_of, turns_text};
 ghost use Rattle.number_text.specs.Appends.{Appends};
 
 use kernel_model::{Armed, Kernel};
@@ -52,33 +48,58 @@ fn is_refused(turn: &Turn) -> bool
     }
 }
 
-fn sums_of<K: Kernel>(ended: &Ended, kernel: &K) -> Sums
-    ensures { result ≡ sums_of ended.now.turns (K.seen kernel.now) }
+fn done_of(turns: &[Turn]) -> usize
+    ensures { result ≡ length (filter (λ t. says_done t.said) turns.now) }
 {
-    let turns = ended.turns();
+    turns.iter().filter(|turn| is_done(turn)).count()
+}
+
+fn refused_of(turns: &[Turn]) -> usize
+    ensures { result ≡ length (filter (λ t. says_refused t.said) turns.now) }
+{
+    turns.iter().filter(|turn| is_refused(turn)).count()
+}
+
+fn sums_of<K: Kernel>(turns: &[Turn], kernel: &K) -> Sums
+    ensures { result ≡ sums_of turns.now (K.seen kernel.now) }
+{
     Sums {
         turns: turns.len() as u64,
-        done: turns.iter().filter(|turn| is_done(turn)).count() as u64,
-        refused: turns.iter().filter(|turn| is_refused(turn)).count() as u64,
+        done: done_of(turns) as u64,
+        refused: refused_of(turns) as u64,
         rules: kernel.rule_count(Family::V4),
         requests: kernel.entry_count(),
     }
 }
 
+fn write_count(words: &[u8], number: u64, out: &mut Vec<u8>) -> Result<(), AllocError>
+    ensures { Appends out.old out.new result (count_text words.now number) }
+{
+    append_bytes(words, out)?;
+    write_decimal(number, out)
+}
+
+fn write_turns(sums: Sums, out: &mut Vec<u8>) -> Result<(), AllocError>
+    ensures { Appends out.old out.new result (turns_text sums) }
+{
+    write_count(b"turns ", sums.turns, out)?;
+    write_count(b" done ", sums.done, out)?;
+    write_count(b" refused ", sums.refused, out)
+}
+
+fn write_kernel(sums: Sums, out: &mut Vec<u8>) -> Result<(), AllocError>
+    ensures { Appends out.old out.new result (kernel_text sums) }
+{
+    write_count(b" rules ", sums.rules, out)?;
+    write_count(b" requests ", sums.requests, out)?;
+    append_byte(b'\n', out)
+}
+
 fn write_summary(sums: Sums, out: &mut Vec<u8>) -> Result<(), AllocError>
     ensures { Appends out.old out.new result (summary sums) }
 {
-    append_bytes(b"turns ", out)?;
-    write_decimal(sums.turns, out)?;
-    append_bytes(b" done ", out)?;
-    write_decimal(sums.done, out)?;
-    append_bytes(b" refused ", out)?;
-    write_decimal(sums.refused, out)?;
-    append_bytes(b" rules ", out)?;
-    write_decimal(sums.rules, out)?;
-    append_bytes(b" requests ", out)?;
-    write_decimal(sums.requests, out)?;
-    append_byte(b'\n', out)
+    write_turns(sums, out)?;
+    write_kernel(sums, out)
 }
 
 fn tell_sums<W: Sink>(alloc: Global, sums: Sums, sink: &mut W) -> Result<(), Stop>
@@ -88,6 +109,28 @@ fn tell_sums<W: Sink>(alloc: Global, sums: Sums, sink: &mut W) -> Result<(), Sto
     let mut text = Vec::new(alloc);
     write_summary(sums, &mut text)?;
     offer(sink, &text)
+}
+
+// Carries a script out on the kernel with empty lists, over memory.
+fn run_over<K: Armed>(alloc: Global, script: Vec<u8>, kernel: &mut K) -> Ended
+    requires { (K.seen kernel.old).journal ≡ [] }
+    ensures { HasRunOver script.items (K.seen kernel.old) (K.seen kernel.new) result }
+{
+    kernel.arm(Vec::new(alloc), Vec::new(alloc));
+    let mut source = MemSource::new(script, Vec::new(alloc), PIECE);
+    let mut answers = MemSink::new(alloc, Vec::new(alloc), PIECE);
+    session(alloc, &mut source, &mut answers, kernel)
+}
+
+// Tells what a session came to, where it reached its end.
+fn tell_ended<W: Sink, K: Kernel>(alloc: Global, ended: &Ended, sink: &mut W, kernel: &K) -> Status
+    requires { CanCount (W.seen sink.old).faults }
+    ensures { SaysSums ended.now (K.seen kernel.now) result (W.seen sink.old) (W.seen sink.new) }
+{
+    match ended.status() {
+        Status::Finished => Status::of(tell_sums(alloc, sums_of(ended.turns(), kernel), sink)),
+        _ => Status::Stopped(Stop::Memory),
+    }
 }
 
 /// Runs the script of this seed over memory, on the kernel with empty lists, and tells what it came to. Such a script has
@@ -102,21 +145,12 @@ pub fn soak<W: Sink, K: Armed>(
     requires starting { (K.seen kernel.old).journal ≡ [] }
     requires writes { CanCount (W.seen sink.old).faults }
     requires few { count ≤ 100000 }
-    ensures { (source : SourceView) →
-        HasSoaked seed count (world source (W.seen sink.old) (K.seen kernel.old))
-        (world source (W.seen sink.new) (K.seen kernel.new)) result
-        ⊎ ((result ≡ status.Stopped stop.Memory) × (world source (W.seen sink.new) (K.seen kernel.new)
-        ≡ world source (W.seen sink.old) (K.seen kernel.old))) }
+    ensures { Soaks seed count (K.seen kernel.old) (K.seen kernel.new) (W.seen sink.old)
+        (W.seen sink.new) result }
 {
     let Ok(script) = make_script(alloc, seed, count) else {
         return Status::Stopped(Stop::Memory);
     };
-    kernel.arm(Vec::new(alloc), Vec::new(alloc));
-    let mut source = MemSource::new(script, Vec::new(alloc), PIECE);
-    let mut answers = MemSink::new(alloc, Vec::new(alloc), PIECE);
-    let ended = session(alloc, &mut source, &mut answers, kernel);
-    match ended.status() {
-        Status::Finished => Status::of(tell_sums(alloc, sums_of(&ended, kernel), sink)),
-        _ => Status::Stopped(Stop::Memory),
-    }
+    let ended = run_over(alloc, script, kernel);
+    tell_ended(alloc, &ended, sink, kernel)
 }
