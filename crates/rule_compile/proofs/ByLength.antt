@@ -68,6 +68,7 @@ none-at [] = refl
 none-at (n ∷ numbers) = none-at numbers
 
 risen-is : (rs : List Route) → Rise rs → rs ≡ shortest_first rs
+unfolding shortest_first
 risen-is [] h = sym (none-at (numbers_from 0 129))
 risen-is (r ∷ rs) h =
     let fits : length_of r ≤ width_of r.prefix.base = r.prefix.is_prefix.0 in
@@ -106,4 +107,5 @@ same-parts f g [] same = refl
 same-parts f g (n ∷ numbers) same = ap₂ (λ (one others : List Route). one ++ others) (same n) (same-parts f g numbers same)
 
 pub sorted-by_length : (xs ys : List Route) → IsNonDecreasingBy length_of ys → IsStableByKey length_of nat_cmp xs ys → ys ≡ shortest_first xs
+unfolding shortest_first
 sorted-by_length xs ys sorted stable = risen-is ys (rise ys sorted) ∙ same-parts (of_length ys) (of_length xs) (numbers_from 0 129) (same-lengths xs ys stable)

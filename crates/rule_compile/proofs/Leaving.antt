@@ -116,6 +116,7 @@ once-keys (r ∷ rs) h =
 -- the shortest first: the same routes
 
 pub of_shortest : (rs : List Route) (r : Route) → Has (shortest_first rs) r → Has rs r
+unfolding shortest_first
 of_shortest rs r h =
     let it : OfFlat (of_length rs) (numbers_from 0 129) r = of_flat (of_length rs) (numbers_from 0 129) r h in
     (of_filter (λ (r : Route). r.prefix.len == it.one) rs r it.has).0
@@ -125,6 +126,7 @@ width-most (addr.V4 bits) = omega arith
 width-most (addr.V6 bits) = omega arith
 
 pub in_shortest : (rs : List Route) (r : Route) → Has rs r → Has (shortest_first rs) r
+unfolding shortest_first
 in_shortest rs r h =
     let fits : r.prefix.len ≤ width_of r.prefix.base = r.prefix.is_prefix.0 in
     let widest : width_of r.prefix.base ≤ 128 = width-most r.prefix.base in
@@ -132,6 +134,7 @@ in_shortest rs r h =
     (has_filtered (λ (q : Route). q.prefix.len == r.prefix.len) rs r h (eqb-refl r.prefix.len))
 
 once-shortest : (rs : List Route) → Once rs → Once (shortest_first rs)
+unfolding shortest_first
 once-shortest rs once =
     once-flat (of_length rs) (numbers_from 0 129) (once-numbers 0 129) (λ len in_numbers. once-filter (λ (r : Route). r.prefix.len == len) rs once)
     (λ one other r in_one in_other of_one of_other.

@@ -83,6 +83,7 @@ ordered rs low (suc n) distinct =
     omega (arith, here, there, ap (λ (p : Prefix). p.len) (same_key-true x y same).0))))))
 
 pub leave-in_order : (link : ℕ) (rs : List Route) → ((r : Route) → Has rs r → link_of r.out ≡ Some link) → are_keys_distinct rs ≡ true → LeaveInOrder link (shortest_first rs)
+unfolding shortest_first
 leave-in_order link rs by_link distinct = record {
   by_link = all-of (λ r. link_of r.out ≡ Some link) (shortest_first rs) (λ r h. by_link r (of_shortest rs r h));
   in_order = ordered rs 0 129 distinct;

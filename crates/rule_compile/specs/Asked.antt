@@ -41,7 +41,7 @@ abbrev pub of_length : List Route → ℕ → List Route
 of_length routes len = filter (λ r. r.prefix.len == len) routes
 
 -- the shortest prefix first, those of one length in the order of their addition
-abbrev pub shortest_first : List Route → List Route
+unfoldable pub shortest_first : List Route → List Route
 shortest_first routes = flat_map (of_length routes) (numbers_from 0 129)
 
 -- the routes of a network's interface, with the number of their table
