@@ -1,6 +1,6 @@
 use Rattle.std.proofs.Common.{◌≡◌, ◌∙◌, Ok, Err, ap, sym}
 use Rattle.mark_server.specs.Sockets.{Sockets, accepting, opening}
-use Rattle.mark_server.specs.declared.socket.SocketFault.{SocketFault}
+use Rattle.mark_server.specs.declared.fault.SocketFault.{SocketFault}
 use Rattle.policy_state.specs.View.{StateView}
 use Rattle.script_reader.specs.declared.line.Line.TheVariants as line
 use Rattle.script_reader.specs.declared.line.SocketLine.TheVariants as socket

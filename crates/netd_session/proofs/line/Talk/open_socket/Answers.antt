@@ -1,6 +1,6 @@
 use Rattle.std.proofs.Common.{◌≡◌, ◌∙◌, Ok, Err, ap}
 use Rattle.mark_server.specs.Sockets.{Sockets, accepting, opening}
-use Rattle.mark_server.specs.declared.socket.SocketFault.{SocketFault}
+use Rattle.mark_server.specs.declared.fault.SocketFault.{SocketFault}
 use Rattle.script_reader.specs.declared.line.Line.TheVariants as line
 use Rattle.script_reader.specs.declared.line.SocketLine.TheVariants as socket
 use Rattle.netd_session.proofs.Opened.{not_made}
