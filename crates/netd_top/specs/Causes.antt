@@ -32,7 +32,8 @@ RanCheck old new s =
     × HasCauses old new s did.given did.lines
     × IsWrittenThen s (streams_of old) (streams_of new) result did.lines did.out
 
--- the script of `soak` has no bad line and nothing in it fails, so it ends well, or the sink failed, or memory ran out
+-- `soak` ends well, or the sink failed, or it answers 6: memory ran out, or its session didn't reach the end of the made script.
+-- That a made script has no bad line, so that the latter never happens, is not proved.
 abbrev pub EndsSoak : Status → Type 0
 EndsSoak s = (s ≡ status.Finished) ⊎ ((s ≡ status.Stopped stop.WriteFault) ⊎ (s ≡ status.Stopped stop.Memory))
 

@@ -133,8 +133,8 @@ fn tell_ended<W: Sink, K: Kernel>(alloc: Global, ended: &Ended, sink: &mut W, ke
     }
 }
 
-/// Runs the script of this seed over memory, on the kernel with empty lists, and tells what it came to. Such a script has
-/// no bad line, and nothing in it fails, so a session that doesn't reach its end ran out of memory.
+/// Runs the script of this seed over memory, on the kernel with empty lists, and tells what it came to. A session that doesn't
+/// reach the script's end is told as out of memory: that no made script has a bad line is not proved.
 pub fn soak<W: Sink, K: Armed>(
     alloc: Global,
     seed: u64,
