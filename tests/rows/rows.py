@@ -6,9 +6,13 @@ import subprocess
 import sys
 
 from case import Case
+from failing import failing_cases
 from limits import limit_cases
+from lines import line_cases
 from made import made_cases
 from texts import USAGE, text_cases
+from transcripts import transcript_cases
+from watches import watch_cases
 
 HERE = pathlib.Path(__file__).parent
 
@@ -89,7 +93,17 @@ def passes(program, case):
 def main():
     program, patterns = sys.argv[1], sys.argv[2:] or ["*"]
     passed = failed = 0
-    for case in [*stored_cases(), *made_cases(), *text_cases(), *limit_cases(), *edge_cases()]:
+    for case in [
+        *stored_cases(),
+        *made_cases(),
+        *text_cases(),
+        *line_cases(),
+        *limit_cases(),
+        *watch_cases(),
+        *edge_cases(),
+        *failing_cases(),
+        *transcript_cases(),
+    ]:
         if not any(fnmatch.fnmatch(case.name, pattern) for pattern in patterns):
             continue
         if passes(program, case):

@@ -207,15 +207,20 @@ unknown_fails w ws (Some p) cw lw none = rw (none, cw.0, lw) refl
 abbrev pub named_leaf : Text → Shape
 named_leaf name = leaf (named_app name)
 
+pub soak_is_sub : IsSub (codes "soak") (named_leaf (codes "soak"))
+soak_is_sub = record { met = refl; here = refl; named = refl; no_help = refl; refused = refl }
+
 -- what is so of each of these forms, by its word
 pub record IsRow (form : Wordless) : Type 0 where
   pub sub : IsSub (word_of_form form) (named_leaf (word_of_form form))
   pub apart : bytes_eq (codes "run") (word_of_form form) ≡ false
   pub other : bytes_eq (word_of_form form) (codes "run") ≡ false
+  pub no_soak : bytes_eq (codes "soak") (word_of_form form) ≡ false
+  pub not_soak : bytes_eq (word_of_form form) (codes "soak") ≡ false
   pub found : wordless_named (word_of_form form) ≡ Some form
 
 pub is_row : (form : Wordless) → IsRow form
-is_row Check = record { sub = record { met = refl; here = refl; named = refl; no_help = refl; refused = refl }; apart = refl; other = refl; found = refl }
+is_row Check = record { sub = record { met = refl; here = refl; named = refl; no_help = refl; refused = refl }; apart = refl; other = refl; no_soak = refl; not_soak = refl; found = refl }
 
 pub no_words_fail : is_fault (fault_of netd_app []) ≡ true
 unfolding clap_on_literals

@@ -13,11 +13,11 @@ use Rattle.command_words.specs.App.{netd_app}
 use Rattle.command_words.specs.Forms.{Text, name_of as word_of_form}
 use Rattle.command_words.specs.declared.form.TheConstants.{ALL_WORDLESS}
 use Rattle.command_words.specs.declared.form.Wordless.{Wordless}
-use Rattle.command_words.specs.Read.{Given, Reading, alone_given, given_in, options, read_found, wordless_named, words_in}
+use Rattle.command_words.specs.Read.{Given, Reading, alone_given, given_in, is_value, options, read_found, soak_given, soaking, wordless_named, words_in}
 use Rattle.command_words.specs.Refused.{is_refused, has_refused}
 use Rattle.command_words.proofs.Walk.{Which, Word, find-passes, with_given, given_of, given_once, words_given, run_given, run_from, run_step, idle_step, value_step, word_of, text_word, nothing_given}
 use Rattle.command_words.proofs.Walk.{plain as plain_word, stranger as stranger_word, bare as bare_word, attached as attached_word}
-use Rattle.command_words.proofs.Accepted.{is_fault, IsClean, idle_walk, is_row, run_is_sub, run_leaf, run_starts_idle, run_rows_idle, sub_fault_is, sub_found, tail_fault, tail_rows, named_leaf, unknown_fails, no_words_fail}
+use Rattle.command_words.proofs.Accepted.{is_fault, IsClean, idle_walk, is_row, run_is_sub, run_leaf, soak_is_sub, run_starts_idle, run_rows_idle, sub_fault_is, sub_found, tail_fault, tail_rows, named_leaf, unknown_fails, no_words_fail}
 use Rattle.command_words.proofs.Run.{holds_nothing}
 use Rattle.command_words.proofs.RunAgrees.{AreClean, answer, idle_agrees}
 use Rattle.command_words.proofs.Following.{is_plain, read_words, taken, words_taken}
@@ -67,7 +67,8 @@ alone_agrees form rest clean =
     let row = is_row form in
     let name = word_of_form form in
     ap₂ outcome (sub_fault_is name (named_leaf name) row.sub rest) (sub_found name (named_leaf name) row.sub rest)
-    ∙ ap₂ (λ a o. if is_fault (fault name) then None else (if a then Some (options (given_in (rows name))) else alone_given o (words_in (rows name)))) row.other row.found
+    ∙ ap (λ a. if is_fault (fault name) then None else (if a then Some (options (given_in (rows name))) else (if bytes_eq name (codes "soak") then soak_given (words_in (rows name)) else alone_given (wordless_named name) (words_in (rows name))))) row.other
+    ∙ ap₂ (λ a o. if is_fault (fault name) then None else (if a then soak_given (words_in (rows name)) else alone_given o (words_in (rows name)))) row.not_soak row.found
     ∙ named_outcome name (alone_given (Some form)) none (fault name) (rows name) rest (words_taken name rest clean)
   where
     fault : Text → Kinds
@@ -80,6 +81,29 @@ alone_agrees form rest clean =
     none [] e = absurd (let no : ◌≡◌ {A = Option (List Text)} (Some []) None = e in cc)
     none (x ∷ xs) e = refl
 
+-- `soak`, and words after it
+soak_agrees : (rest : List Text) → AreClean rest → Agrees (codes "soak") rest (soak_given rest)
+soak_agrees rest clean =
+    ap₂ outcome (sub_fault_is (codes "soak") (named_leaf (codes "soak")) soak_is_sub rest) (sub_found (codes "soak") (named_leaf (codes "soak")) soak_is_sub rest)
+    ∙ named_outcome (codes "soak") soak_given none (level_fault (named_leaf (codes "soak")) [] nothing_held rest false [])
+    (rows_after (named_leaf (codes "soak")).rules [] rest) rest (words_taken (codes "soak") rest clean)
+  where
+    two : (first second : Text) (a b : Bool) → is_plain first ≡ a → is_plain second ≡ b → (if (a && (b && true)) && true then Some (first ∷ second ∷ []) else None) ≡ None
+        → soak_given (first ∷ second ∷ []) ≡ None
+    two first second true true p q e = absurd (let no : ◌≡◌ {A = Option (List Text)} (Some (first ∷ second ∷ [])) None = e in cc)
+    two first second true false p q e = rw q (last (is_value first))
+      where
+        last : (v : Bool) → (if v && false then Some (soaking first second) else None) ≡ None
+        last true = refl
+        last false = refl
+    two first second false b p q e = rw p refl
+
+    none : (l : List Text) → taken l ≡ None → soak_given l ≡ None
+    none [] e = refl
+    none (x ∷ []) e = refl
+    none (x ∷ y ∷ []) e = two x y (is_plain x) (is_plain y) refl refl e
+    none (x ∷ y ∷ z ∷ zs) e = refl
+
 -- a word that names none of these forms names none of their subcommands
 names_none : (w : Text) (forms : List Wordless) → find (λ form. bytes_eq (word_of_form form) w) forms ≡ None → find (answers_to w) (map (λ form. (word_of_form form, [])) forms) ≡ None
 names_none w [] none = refl
@@ -91,20 +115,26 @@ names_none w (form ∷ forms) none = by (bytes_eq (word_of_form form) w) none (n
     by true e rest = absurd (cc)
     by false e rest = rest e
 
-any_agrees : (w : Text) (rest : List Text) (b : Bool) → bytes_eq (codes "run") w ≡ b → IsClean w → AreClean rest → Agrees w rest (if b then option_map options (run_given rest) else alone_given (wordless_named w) rest)
-any_agrees w rest true e cw cs = subst (λ (v : Text). Agrees v rest (option_map options (run_given rest))) (named (codes "run") w e) (run_agrees rest cs)
-any_agrees w rest false e cw cs = by (wordless_named w) refl
+-- what the words after the first one give, by what that one is
+abbrev given_after : (is_run is_soak : Bool) → Text → List Text → Option Reading
+given_after is_run is_soak w rest = if is_run then option_map options (run_given rest) else (if is_soak then soak_given rest else alone_given (wordless_named w) rest)
+
+any_agrees : (w : Text) (rest : List Text) (b s : Bool) → bytes_eq (codes "run") w ≡ b → bytes_eq (codes "soak") w ≡ s → IsClean w → AreClean rest → Agrees w rest (given_after b s w rest)
+any_agrees w rest true s e soak_is cw cs = subst (λ (v : Text). Agrees v rest (option_map options (run_given rest))) (named (codes "run") w e) (run_agrees rest cs)
+any_agrees w rest false true e soak_is cw cs = subst (λ (v : Text). Agrees v rest (soak_given rest)) (named (codes "soak") w soak_is) (soak_agrees rest cs)
+any_agrees w rest false false e soak_is cw cs = by (wordless_named w) refl
   where
     by : (o : Option Wordless) → wordless_named w ≡ o → Agrees w rest (alone_given o rest)
     by (Some form) found = subst (λ (v : Text). Agrees v rest (alone_given (Some form) rest))
         (named (word_of_form form) w (find-passes (λ (f : Wordless). bytes_eq (word_of_form f) w) ALL_WORDLESS form found)) (alone_agrees form rest cs)
     by None none = refused (w ∷ rest) (unknown_fails w rest (long_of w) cw refl
-        (ap (λ b. if b || false then Some (codes "run", []) else find (answers_to w) (map (λ form. (word_of_form form, [])) ALL_WORDLESS)) e ∙ names_none w ALL_WORDLESS none))
+        (ap₂ (λ b s. if b || false then Some (codes "run", []) else (if s || false then Some (codes "soak", []) else find (answers_to w) (map (λ form. (word_of_form form, [])) ALL_WORDLESS))) e soak_is
+        ∙ names_none w ALL_WORDLESS none))
 
 -- with no refused word, `clap` and the walk agree
 pub clean_agrees : (words : List Text) → AreClean words → outcome (fault_of netd_app words) (subcommand_of netd_app words) ≡ words_given words
 clean_agrees [] clean = refused [] no_words_fail
-clean_agrees (w ∷ rest) clean = any_agrees w rest _ refl clean.0 clean.1
+clean_agrees (w ∷ rest) clean = any_agrees w rest _ _ refl refl clean.0 clean.1
 
 -- ---- refused words
 
@@ -169,9 +199,36 @@ refused_none (w ∷ rest) e = by (bytes_eq (codes "run") w) refl
     alone_none (Some form) found = after_word form rest
         (in_rest (word_of_form form) (is_row form).sub.refused (named (word_of_form form) w (find-passes (λ (f : Wordless). bytes_eq (word_of_form f) w) ALL_WORDLESS form found)))
 
-    by : (b : Bool) → bytes_eq (codes "run") w ≡ b → (if b then option_map options (run_given rest) else alone_given (wordless_named w) rest) ≡ None
+    refused_value : (a : Bool) → a ≡ true → (p : Bool) → (p && not a) ≡ false
+    refused_value true h true = refl
+    refused_value true h false = refl
+    refused_value false h p = cc
+
+    after_soak : (ws : List Text) → has_refused ws ≡ true → soak_given ws ≡ None
+    after_soak [] h = refl
+    after_soak (x ∷ []) h = refl
+    after_soak (x ∷ y ∷ z ∷ zs) h = refl
+    after_soak (x ∷ y ∷ []) h = go (is_refused x) refl h
+      where
+        last : (v : Bool) → (if v && false then Some (soaking x y) else None) ≡ None
+        last true = refl
+        last false = refl
+
+        second : (v : Bool) → is_refused y ≡ v → (v || false) ≡ true → soak_given (x ∷ y ∷ []) ≡ None
+        second true r k = rw (refused_value (is_refused y) r (is_plain y)) (last (is_value x))
+        second false r k = cc
+
+        go : (v : Bool) → is_refused x ≡ v → (v || (is_refused y || false)) ≡ true → soak_given (x ∷ y ∷ []) ≡ None
+        go true r k = rw (refused_value (is_refused x) r (is_plain x)) refl
+        go false r k = second (is_refused y) refl k
+
+    soak_or_alone : (b : Bool) → bytes_eq (codes "soak") w ≡ b → (if b then soak_given rest else alone_given (wordless_named w) rest) ≡ None
+    soak_or_alone true same = after_soak rest (in_rest (codes "soak") refl (named (codes "soak") w same))
+    soak_or_alone false same = alone_none (wordless_named w) refl
+
+    by : (b : Bool) → bytes_eq (codes "run") w ≡ b → given_after b (bytes_eq (codes "soak") w) w rest ≡ None
     by true same = ap (option_map options) (run_refused rest (in_rest (codes "run") refl (named (codes "run") w same)) None nothing_given)
-    by false same = alone_none (wordless_named w) refl
+    by false same = soak_or_alone (bytes_eq (codes "soak") w) refl
 
 are_clean : (words : List Text) → has_refused words ≡ false → AreClean words
 are_clean [] e = tt

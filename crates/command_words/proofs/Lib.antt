@@ -8,4 +8,5 @@ pub mod Agrees
 pub mod Turns
 pub mod Whole
 pub mod Lists
+pub mod Numbers
 pub mod Reading

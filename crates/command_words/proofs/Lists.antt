@@ -34,10 +34,10 @@ pub record IsRest (last count : ℕ) (pieces : List Text) (numbers : List ℕ) :
 
 -- ---- a number's text
 
-digit_low : (d : ℕ) → digit_value d < 10 → 48 ≤ d
+pub digit_low : (d : ℕ) → digit_value d < 10 → 48 ≤ d
 digit_low d small = grind (arith, nat_tests)
 
-digit_high : (d : ℕ) → digit_value d < 10 → d ≤ 57
+pub digit_high : (d : ℕ) → digit_value d < 10 → d ≤ 57
 digit_high d small = grind (arith, nat_tests)
 
 all_no_comma : (ds : Text) → AllDigits 10 ds → All (λ b. (b == 44) ≡ false) ds
@@ -181,13 +181,13 @@ list_begins text (n ∷ ns) h = by (decimal n) refl (spells n (All-head (λ n. n
           high = digit_high d s.numeral.1.0;
         }
 
-no_dash : (d : ℕ) (ds : Text) → (d == 45) ≡ false → is_dashed (d ∷ ds) ≡ false
+pub no_dash : (d : ℕ) (ds : Text) → (d == 45) ≡ false → is_dashed (d ∷ ds) ≡ false
 no_dash d ds e = rw e refl
 
-no_long : (d : ℕ) (ds : Text) → (d == 45) ≡ false → long_of (d ∷ ds) ≡ None
+pub no_long : (d : ℕ) (ds : Text) → (d == 45) ≡ false → long_of (d ∷ ds) ≡ None
 no_long d ds e = rw e refl
 
-no_help : (d : ℕ) (ds : Text) → (d == 45) ≡ false → (d == 104) ≡ false → is_help (d ∷ ds) ≡ false
+pub no_help : (d : ℕ) (ds : Text) → (d == 45) ≡ false → (d == 104) ≡ false → is_help (d ∷ ds) ≡ false
 no_help d ds e f = rw (e, f) refl
 
 pub list_plain : (text : Text) (ns : List ℕ) → IsList text ns → word_of text ≡ plain

@@ -2,7 +2,7 @@
 use Rattle.std.proofs.Common.{◌≡◌, ◌∙◌, ◌==◌, Bool, true, false, refl, sym, ap, find, List, [], ◌∷◌, Option, Some, None, codes, if◌then◌else◌, is_some, option_map}
 use Rattle.std.specs.Str.{bytes_eq}
 use Rattle.command_words.specs.Forms.{Text}
-use Rattle.command_words.specs.Read.{Given, Reading, alone_given, options, wordless_named}
+use Rattle.command_words.specs.Read.{Given, Reading, alone_given, options, soak_given, wordless_named}
 use Rattle.command_words.specs.Refused.{is_refused}
 
 -- the two options of `run`
@@ -87,7 +87,8 @@ run_given ws = run_from None nothing_given ws
 -- what the words give, where they have a form but for the texts of the lists
 abbrev pub words_given : List Text → Option Reading
 words_given [] = None
-words_given (w ∷ rest) = if bytes_eq (codes "run") w then option_map options (run_given rest) else alone_given (wordless_named w) rest
+words_given (w ∷ rest) = if bytes_eq (codes "run") w then option_map options (run_given rest)
+    else (if bytes_eq (codes "soak") w then soak_given rest else alone_given (wordless_named w) rest)
 
 -- what is found passes
 pub find-passes : {X : Type 0} (p : X → Bool) (xs : List X) (x : X) → find p xs ≡ Some x → p x ≡ true

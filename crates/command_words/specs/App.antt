@@ -35,9 +35,9 @@ named_app name = with_rule (new_app name) words_rule
 abbrev pub with_wordless : App → Wordless → App
 with_wordless app form = with_subcommand app (named_app (name_of form)).top
 
--- the command with `run` alone
+-- the command with the forms that have words of their own
 abbrev pub first_app : App
-first_app = with_subcommand (on_top plain_shape (new_app (codes "netd_run"))) run_app.top
+first_app = with_subcommand (with_subcommand (on_top plain_shape (new_app (codes "netd_run"))) run_app.top) (named_app (codes "soak")).top
 
 -- the whole command
 abbrev pub netd_app : App

@@ -1,5 +1,5 @@
 -- The forms of the command line: which lists of words the program accepts, and what they say.
-use Rattle.std.specs.Prelude.{◌≡◌, ℕ, ◌<◌, ◌≤◌, ◌⊎◌, List, [], ◌∷◌, ◌++◌, All, codes, length, map}
+use Rattle.std.specs.Prelude.{◌≡◌, ℕ, ◌<◌, ◌≤◌, ◌^◌, ◌⊎◌, List, [], ◌∷◌, ◌++◌, All, codes, length, map}
 use Rattle.std.specs.Fmt.{decimal}
 use Rattle.std.specs.List.{join_with_byte}
 use Rattle.std.specs.List.Sorted.{IsStrictlyIncreasing}
@@ -41,6 +41,12 @@ pub record IsRun (words : List Text) (refuse breaks : List ℕ) : Type 0 where
   pub options : (MayGiveOption (codes "refuse") first refuse × MayGiveOption (codes "break") second breaks)
       ⊎ (MayGiveOption (codes "break") first breaks × MayGiveOption (codes "refuse") second refuse)
 
+-- `soak`, and then two numbers in decimal without leading zeros: the seed, and how many lines are drawn
+pub record IsSoak (words : List Text) (seed count : ℕ) : Type 0 where
+  pub whole : words ≡ codes "soak" ∷ decimal seed ∷ decimal count ∷ []
+  pub fits : seed < 2 ^ 64
+  pub few : count ≤ 100000
+
 -- the only word of a form that has no others
 abbrev pub name_of : Wordless → Text
 name_of Check = codes "check"
@@ -49,8 +55,10 @@ name_of Check = codes "check"
 pub data FormView : Type 0 where
   run : List ℕ → List ℕ → FormView
   wordless : Wordless → FormView
+  soak : ℕ → ℕ → FormView
 
 -- the words have this form
 abbrev pub IsForm : List Text → FormView → Type 0
 IsForm words (run refuse breaks) = IsRun words refuse breaks
 IsForm words (wordless form) = words ≡ name_of form ∷ []
+IsForm words (soak seed count) = IsSoak words seed count

@@ -1,10 +1,12 @@
 -- What the code makes of the matches.
-use Rattle.std.specs.Prelude.{◌≡◌, ℕ, List, [], Option, Some, None, codes, find, if◌then◌else◌, unwrap_or}
+use Rattle.std.specs.Prelude.{◌≡◌, ◌&&◌, ℕ, Bool, List, [], ◌∷◌, Option, Some, None, codes, find, if◌then◌else◌, is_none, not, unwrap_or}
 use Rattle.std.specs.Str.{bytes_eq}
+use Rattle.clap.specs.Lexer.{long_of}
 use Rattle.clap.specs.Walk.{Row, all_of, first_of}
 use Rattle.command_words.specs.declared.form.TheConstants.{ALL_WORDLESS}
 use Rattle.command_words.specs.declared.form.Wordless.{Wordless}
-use Rattle.command_words.specs.Forms.{Text, IsList, FormView, name_of, run, wordless}
+use Rattle.command_words.specs.Forms.{Text, IsList, IsSoak, FormView, name_of, run, soak, wordless}
+use Rattle.command_words.specs.Refused.{is_refused}
 
 -- the texts that were given for the options of `run`
 pub record Given : Type 0 where
@@ -20,15 +22,24 @@ IsListOrNone (Some text) numbers = IsList text numbers
 abbrev pub Says : Given → FormView → Type 0
 Says given (run refuse breaks) = IsListOrNone given.refuses refuse × IsListOrNone given.breaks breaks
 Says given (wordless form) = ⊥
+Says given (soak seed count) = ⊥
 
--- what the words give: the options of `run`, or a form's word alone
+-- the form that these two words after `soak` say
+abbrev pub SaysSoak : Text → Text → FormView → Type 0
+SaysSoak first second (run refuse breaks) = ⊥
+SaysSoak first second (wordless form) = ⊥
+SaysSoak first second (soak seed count) = IsSoak (codes "soak" ∷ first ∷ second ∷ []) seed count
+
+-- what the words give: the options of `run`, a form's word alone, or the two words after `soak`
 pub data Reading : Type 0 where
   options : Given → Reading
   alone : Wordless → Reading
+  soaking : Text → Text → Reading
 
 abbrev pub SaysReading : Reading → FormView → Type 0
 SaysReading (options given) form = Says given form
 SaysReading (alone only) form = form ≡ wordless only
+SaysReading (soaking first second) form = SaysSoak first second form
 
 abbrev pub SaysSome : Option Reading → FormView → Type 0
 SaysSome None form = ⊥
@@ -46,6 +57,15 @@ abbrev pub alone_given : Option Wordless → List Text → Option Reading
 alone_given (Some form) [] = Some (alone form)
 alone_given _ _ = None
 
+-- a word that may be a value: it is not refused, and no `--NAME`
+abbrev pub is_value : Text → Bool
+is_value word = is_none (long_of word) && not (is_refused word)
+
+-- what is given by the words after `soak`
+abbrev pub soak_given : List Text → Option Reading
+soak_given (first ∷ second ∷ []) = if is_value first && is_value second then Some (soaking first second) else None
+soak_given _ = None
+
 -- the words after a subcommand's name
 abbrev pub words_in : List Row → List Text
 words_in rows = unwrap_or (all_of (codes "words") rows) []
@@ -55,4 +75,5 @@ abbrev pub read_found : Option (Text × List Row) → Option Reading
 read_found None = None
 read_found (Some found) =
     if bytes_eq found.0 (codes "run") then Some (options (given_in found.1))
-    else alone_given (wordless_named found.0) (words_in found.1)
+    else (if bytes_eq found.0 (codes "soak") then soak_given (words_in found.1)
+    else alone_given (wordless_named found.0) (words_in found.1))

@@ -39,7 +39,9 @@ pub fn netd_command<'a>(alloc: Global) -> Result<Command<'a>, AllocError>
         .disable_version_flag(true)
         .disable_help_subcommand(true)
         .subcommand_required(true);
-    let mut command = plain.subcommand(run)?;
+    let mut command = plain
+        .subcommand(run)?
+        .subcommand(named_command(alloc, "soak")?)?;
     for form in ALL_WORDLESS {
         command = command.subcommand(named_command(alloc, form.name())?)?;
     }

@@ -8,6 +8,8 @@ pub enum Form {
     Run { refuse: Vec<u64>, breaks: Vec<u64> },
     /// A form whose only word is its name.
     Wordless(Wordless),
+    /// Run the script that is made from this seed, of which so many lines are drawn: at most 100,000.
+    Soak { seed: u64, count: u32 },
 }
 
 /// The forms whose only word is their name.

@@ -1,16 +1,17 @@
-ghost use Rattle.std.specs.Prelude.{◌≡◌, ℕ, List, Err, IfOk};
+ghost use Rattle.std.specs.Prelude.{◌≡◌, ℕ, List, [], ◌∷◌, Err, IfOk, map};
 ghost use Rattle.std.specs.Option.{option_copied};
 ghost use Rattle.clap.specs.Matches.{found_of};
 ghost use Rattle.clap.specs.Walk.{rows_of};
 ghost use Rattle.clap.specs.Simple.{subcommand_rows_of};
 ghost use Rattle.command_words.specs.Forms.{FormView};
-ghost use Rattle.command_words.specs.Read.{Says, SaysSome, alone_given, given_in, read_found, wordless_named, words_in};
+ghost use Rattle.command_words.specs.Read.{Says, SaysSome, alone_given, given_in, read_found, soak_given, wordless_named, words_in};
 ghost use Rattle.command_words.specs.View.{view_of};
 
 use crate::fault::WordsFault;
 use crate::form::{ALL_WORDLESS, Form, Wordless};
 use crate::list::read_list_or_none;
 use clap::ArgMatches;
+use number_text::read_decimal;
 use std::alloc::Global;
 
 fn run_by(alloc: Global, refuse: Option<&str>, breaks: Option<&str>) -> Result<Form, WordsFault>
@@ -64,6 +65,52 @@ fn form_alone(form: Wordless, inner: &ArgMatches) -> Result<Form, WordsFault>
     }
 }
 
+/// The most lines of a script that are drawn.
+const MOST_DRAWN: u64 = 100000;
+
+/// The script that these two words say: its seed, and how many lines are drawn.
+fn soak_of(first: &str, second: &str) -> Result<Form, WordsFault>
+    ensures ok { IfOk result (λ form. SaysSome (soak_given (first.now ∷ second.now ∷ []))
+        (view_of form)) }
+    ensures no_form { result ≡ Err WordsFault.NoForm → (form : FormView) →
+        SaysSome (soak_given (first.now ∷ second.now ∷ [])) form → ⊥ }
+{
+    let Some(seed) = read_decimal(first.as_bytes(), u64::MAX) else {
+        return Err(WordsFault::NoForm);
+    };
+    let Some(count) = read_decimal(second.as_bytes(), MOST_DRAWN) else {
+        return Err(WordsFault::NoForm);
+    };
+    Ok(Form::Soak {
+        seed,
+        count: count as u32,
+    })
+}
+
+fn soak_by(words: &[&str]) -> Result<Form, WordsFault>
+    ensures ok { IfOk result (λ form. SaysSome (soak_given (map (λ word. word.now) words.now))
+        (view_of form)) }
+    ensures no_form { result ≡ Err WordsFault.NoForm → (form : FormView) →
+        SaysSome (soak_given (map (λ word. word.now) words.now)) form → ⊥ }
+{
+    match words {
+        [first, second] => soak_of(first, second),
+        _ => Err(WordsFault::NoForm),
+    }
+}
+
+fn soak_in(inner: &ArgMatches) -> Result<Form, WordsFault>
+    ensures ok { IfOk result (λ form. SaysSome
+        (soak_given (words_in (rows_of (found_of inner.now)))) (view_of form)) }
+    ensures no_form { result ≡ Err WordsFault.NoForm → (form : FormView) → SaysSome
+        (soak_given (words_in (rows_of (found_of inner.now)))) form → ⊥ }
+{
+    match inner.get_strs("words") {
+        None => Err(WordsFault::NoForm),
+        Some(words) => soak_by(words),
+    }
+}
+
 /// The form that the matches say.
 pub fn form_in(alloc: Global, matches: &ArgMatches) -> Result<Form, WordsFault>
     ensures ok { IfOk result (λ form. SaysSome (read_found (subcommand_rows_of matches.now))
@@ -76,6 +123,9 @@ pub fn form_in(alloc: Global, matches: &ArgMatches) -> Result<Form, WordsFault>
         Some((name, inner)) => {
             if name == "run" {
                 return run_in(alloc, inner);
+            }
+            if name == "soak" {
+                return soak_in(inner);
             }
             match wordless_named(name) {
                 None => Err(WordsFault::NoForm),

@@ -7,4 +7,5 @@ use Rattle.commands.specs.declared.command.Command.TheVariants as command
 abbrev pub FitsTypes : Command → Type 0
 FitsTypes (command.LinkAdd name index) = index < 65536
 FitsTypes (command.CreatePhysical net permission) = net < 65536
+FitsTypes (command.CreateVirtual net secure) = net < 65536
 FitsTypes _ = Unit {0}

@@ -2,5 +2,7 @@
 #![tactic(auto)]
 
 mod command;
+mod ranges;
 
 pub use command::{Command, Way};
+pub use ranges::Ranges;

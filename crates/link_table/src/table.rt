@@ -61,6 +61,17 @@ impl LinkTable {
         Ok(table)
     }
 
+    /// The same links.
+    pub fn copy(&self) -> Result<LinkTable, AllocError>
+        ensures { IfOk result (λ table. table.links ≡ self.now.links) }
+    {
+        Ok(LinkTable {
+            links: Vec::from_slice(*self.links.allocator(), self.links.as_slice())?,
+            by_name: self.by_name.clone()?,
+            by_index: self.by_index.clone()?,
+        })
+    }
+
     /// How many links there are.
     pub fn len(&self) -> usize
         ensures count { result ≡ length self.now.links }

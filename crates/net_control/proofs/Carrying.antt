@@ -4,7 +4,7 @@ use Rattle.std.proofs.lemmas.Bool.{lt-ltb, le-ltb}
 use Rattle.std.specs.Bool.{if◌then◌else◌}
 use Rattle.net_names.specs.declared.code.Code.{Code}
 use Rattle.net_names.specs.declared.code.Code.TheVariants as code
-use Rattle.kernel_model.specs.Segment.{done}
+use Rattle.kernel_model.specs.Segment.{done, IsUndoneAt, IsHalted}
 use Rattle.kernel_model.proofs.Replays.{replay-append}
 use Rattle.kernel_model.specs.PlanView.{PlanView}
 use Rattle.kernel_model.specs.Stands.{Stands}
@@ -22,7 +22,7 @@ use Rattle.policy_state.specs.View.{StateView}
 use Rattle.commands.specs.declared.command.Command.{Command}
 use Rattle.rule_compile.specs.Asked.{asked, carried, MayStep}
 use Rattle.plan_exec.specs.Carries.{Carries}
-use Rattle.plan_exec.specs.declared.Carried.TheVariants.{Done, Halted}
+use Rattle.plan_exec.specs.declared.Carried.TheVariants.{Done, Halted, Undone}
 use Rattle.std.specs.Prelude.{◌⊎◌, ◌*◌, true, false, slice_get, Err, [], ◌∷◌, ◌≢◌}
 use Rattle.std.proofs.lemmas.Bool.Decides.{eqb_tells}
 use Rattle.prefixes.specs.declared.addr.Family.{Family}
@@ -36,7 +36,7 @@ use Rattle.policy_state.proofs.FirstState.{good-start}
 use Rattle.net_control.specs.Started.{start_adds, IsStarted}
 use Rattle.net_control.specs.declared.controller.StartFault.TheVariants as fault
 use Rattle.kernel_model.specs.Journal.{replay, replay_from}
-use Rattle.net_control.specs.Applied.{code_of, most_requests, adds_of, deletes_of, or_else}
+use Rattle.net_control.specs.Applied.{IsTaken, code_of, most_requests, adds_of, deletes_of, or_else}
 use Rattle.net_control.specs.Limit.{journal_limit}
 use Rattle.net_control.specs.View.{ControllerView, running, IsKept, StandsFor}
 
@@ -110,6 +110,47 @@ done_grew plan old mid new s command plan_is same carries =
     subst (λ (k : KernelView). Carries (asked s command) k new Done) same
     (subst (λ (p : PlanView). Carries p mid new Done) plan_is carries) in
     here.grew ∙ ap (grown old) here.form
+
+-- the policy accepts, and the journal has room for the plan
+pub taken : (old : ControllerView) (before : KernelView) (plan : PlanView) (command : Command) → old.halted ≡ None → refusal old.state command ≡ None → plan ≡ asked old.state command
+    → length before.journal + (2 * length plan.adds + length plan.deletes) ≤ journal_limit → IsTaken old before command
+taken old before plan command runs accepted is room = record {
+  runs = runs;
+  accepted = accepted_with_room old.state before.journal command accepted
+      (subst (λ (p : PlanView). length before.journal + (2 * length p.adds + length p.deletes) ≤ journal_limit) is room);
+}
+
+-- the policy accepts, and the journal has no room for the plan
+pub has_no_room : (s : StateView) (journal : List Entry) (plan : PlanView) (command : Command) → refusal s command ≡ None → plan ≡ asked s command
+    → journal_limit < length journal + (2 * length plan.adds + length plan.deletes) → code_of s journal command ≡ Some code.NoSpace
+has_no_room s journal plan command accepted is full = accepted_without_room s journal command accepted
+    (subst (λ (p : PlanView). journal_limit < length journal + (2 * length p.adds + length p.deletes)) is full)
+
+-- a plan that was undone
+abbrev pub IsUndone : (s : StateView) → Command → (old new : KernelView) → ℕ → Type 0
+IsUndone s command old new request =
+    (k : ℕ) × (entries : List Entry) × IsUndoneAt (adds_of s command) k entries × (new ≡ grown old entries) × (request ≡ length old.journal + k + 1)
+
+pub undone_grew : (plan : PlanView) (old mid new : KernelView) (s : StateView) (command : Command) (request : ℕ) → plan ≡ asked s command → mid ≡ old
+    → Carries plan mid new (Undone request) → IsUndone s command old new request
+undone_grew plan old mid new s command request plan_is same carries =
+    let here : Carries (asked s command) old new (Undone request) =
+    subst (λ (k : KernelView). Carries (asked s command) k new (Undone request)) same
+    (subst (λ (p : PlanView). Carries p mid new (Undone request)) plan_is carries) in
+    (here.form.0, here.entries, here.form.1, here.grew, here.form.2)
+
+-- a plan that was halted
+abbrev pub IsHaltedAt : (s : StateView) → Command → (old new : KernelView) → ℕ → Type 0
+IsHaltedAt s command old new request =
+    (entries : List Entry) × IsHalted (adds_of s command) (deletes_of s command) entries × (new ≡ grown old entries) × (request ≡ length old.journal + length entries)
+
+pub halted_grew : (plan : PlanView) (old mid new : KernelView) (s : StateView) (command : Command) (request : ℕ) → plan ≡ asked s command → mid ≡ old
+    → Carries plan mid new (Halted request) → IsHaltedAt s command old new request
+halted_grew plan old mid new s command request plan_is same carries =
+    let here : Carries (asked s command) old new (Halted request) =
+    subst (λ (k : KernelView). Carries (asked s command) k new (Halted request)) same
+    (subst (λ (p : PlanView). Carries p mid new (Halted request)) plan_is carries) in
+    (here.entries, here.form.0, here.grew, here.form.1)
 
 -- a start that was halted
 pub started_halted : (plan : PlanView) (old mid new : KernelView) (r : ℕ) → plan ≡ record { adds = start_adds; deletes = [] } → mid ≡ old

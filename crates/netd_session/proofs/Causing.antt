@@ -16,11 +16,11 @@ use Rattle.line_input.specs.Lines.{input_limit}
 use Rattle.net_control.proofs.Causing.{has_start_cause}
 use Rattle.net_control.specs.Causes.{BrokeNone, BrokeSome}
 use Rattle.net_control.specs.Started.{start_adds}
+use Rattle.net_control.specs.View.{ControllerView}
 use Rattle.net_control.specs.declared.controller.StartFault.TheVariants as fault
 use Rattle.script_reader.specs.declared.line.Line.{Line}
-use Rattle.script_reader.specs.declared.line.Line.TheVariants as line
-use Rattle.script_reader.specs.declared.line.TraceLine.TheVariants as trace
-use Rattle.netd_session.proofs.Growing.{HasGrown, goes_grew, grew_by_none, grew_twice, never_falls, packet_stays, ran_grew, show_stays}
+use Rattle.netd_session.proofs.Growing.{HasGrown, goes_grew, grew_by_none, grew_twice, never_falls, ran_grew}
+use Rattle.netd_session.proofs.Asking.{IsKind, is_command, is_other, kind_of_line}
 use Rattle.netd_session.proofs.Tellings.{stopped}
 use Rattle.netd_session.specs.Answers.{IsAnsweredLine}
 use Rattle.netd_session.specs.Causes.{ComesWhere, HasBadLine, HasCauses, InGrammar, IsCausedSession, NothingFailed, RefusedStart, StandsThen, ToldInPart}
@@ -45,27 +45,25 @@ record Breaks (s e : Standing) : Type 0 where
 is_halted : {A : Type 0} (h : Option ℕ) → h ≡ None → IsSome h → A
 is_halted h none some = absurd (false≢true (subst (λ (o : Option ℕ). IsSome o) none some))
 
-same_breaks : (s e : Standing) → s.controller.halted ≡ None → e ≡ s → Breaks s e
-same_breaks s e runs same = record {
-  none = λ _. ap (λ (x : Standing). breaks_of x.kernel) same;
-  some = λ halted. is_halted e.controller.halted (ap (λ (x : Standing). x.controller.halted) same ∙ runs) halted;
-}
-
 answered_breaks : (l : Line) (n : ℕ) (s e : Standing) (turns : List Turn) (out : List ℕ) → s.controller.halted ≡ None → IsAnsweredLine l n s e turns out → Breaks s e
-answered_breaks line.Blank n s e turns out runs is = same_breaks s e runs is.0
-answered_breaks (line.Control command) n s e turns out runs is = record { none = unbroken; some = λ halted. broken (is.caused.halts.0 halted) }
+answered_breaks l n s e turns out runs is = by (kind_of_line l n s e turns out is)
   where
-    unbroken : e.controller.halted ≡ None → BrokeNone s.kernel e.kernel
-    unbroken goes_on = elim (cases_lt (breaks_of s.kernel) (breaks_of e.kernel)) as (λ _. BrokeNone s.kernel e.kernel) [
-      | inl broke ↦ is_halted e.controller.halted goes_on (is.caused.halts.1 (inl broke))
-      | inr few ↦ omega (arith, few, never_falls s.kernel e.kernel (is.moments.entries, is.moments.grew))
-    ]
+    by : IsKind l n s e turns out → Breaks s e
+    by (is_other other keeps) = record {
+      none = λ _. ap breaks_of keeps.kernel;
+      some = λ halted. is_halted e.controller.halted (ap (λ (c : ControllerView). c.halted) keeps.controller ∙ runs) halted;
+    }
+    by (is_command command same commanded) = record { none = unbroken; some = λ halted. broken (commanded.caused.halts.0 halted) }
+      where
+        unbroken : e.controller.halted ≡ None → BrokeNone s.kernel e.kernel
+        unbroken goes_on = elim (cases_lt (breaks_of s.kernel) (breaks_of e.kernel)) as (λ _. BrokeNone s.kernel e.kernel) [
+          | inl broke ↦ is_halted e.controller.halted goes_on (commanded.caused.halts.1 (inl broke))
+          | inr few ↦ omega (arith, few, never_falls s.kernel e.kernel (commanded.moments.entries, commanded.moments.grew))
+        ]
 
-    broken : BrokeSome s.kernel e.kernel ⊎ IsSome s.controller.halted → BrokeSome s.kernel e.kernel
-    broken (inl broke) = broke
-    broken (inr halted) = is_halted s.controller.halted runs halted
-answered_breaks (line.Trace (trace.Made uid mark dest link)) n s e turns out runs is = same_breaks s e runs (packet_stays uid mark dest link n s e turns out is)
-answered_breaks (line.Show question) n s e turns out runs is = same_breaks s e runs (show_stays question n s e turns out is)
+        broken : BrokeSome s.kernel e.kernel ⊎ IsSome s.controller.halted → BrokeSome s.kernel e.kernel
+        broken (inl broke) = broke
+        broken (inr halted) = is_halted s.controller.halted runs halted
 
 goes_breaks : (text : List ℕ) (n : ℕ) (s e : Standing) (turns : List Turn) (out : List ℕ) → s.controller.halted ≡ None → Goes text n s e turns out → Breaks s e
 goes_breaks text n s e turns out runs goes = answered_breaks goes.line n s e turns out runs goes.answered

@@ -1,18 +1,12 @@
 -- A session adds to a kernel's journal, and does nothing else to a kernel.
-use Rattle.std.proofs.Common.{◌≡◌, ◌∙◌, ℕ, ◌+◌, ◌≤◌, List, [], ◌++◌, length, Option, None, Some, refl, sym, ap, subst, append_assoc, arith}
+use Rattle.std.proofs.Common.{◌≡◌, ◌∙◌, ℕ, ◌+◌, ◌≤◌, List, [], ◌++◌, length, refl, sym, ap, subst, append_assoc, arith}
 use Rattle.std.proofs.lemmas.List.{append-nil}
 use Rattle.kernel_model.proofs.Counts.{breaks-grown}
 use Rattle.kernel_model.specs.View.{KernelView, breaks_of, grown}
 use Rattle.kernel_model.specs.declared.request.Entry.{Entry}
-use Rattle.policy_state.specs.View.{link_named}
-use Rattle.prefixes.specs.declared.addr.Addr.{Addr}
 use Rattle.script_reader.specs.declared.line.Line.{Line}
-use Rattle.script_reader.specs.declared.line.Line.TheVariants as line
-use Rattle.script_reader.specs.declared.line.ShowLine.{ShowLine}
-use Rattle.script_reader.specs.declared.line.ShowLine.TheVariants as show
-use Rattle.script_reader.specs.declared.line.TraceLine.TheVariants as trace
-use Rattle.uid_ranges.specs.declared.range.Uid.{Uid}
-use Rattle.netd_session.specs.Answers.{IsAnsweredLine, IsBoundAndTraced, IsPacketLine}
+use Rattle.netd_session.proofs.Asking.{IsKind, is_command, is_other, kind_of_line}
+use Rattle.netd_session.specs.Answers.{IsAnsweredLine}
 use Rattle.netd_session.specs.EndedView.{EndedView}
 use Rattle.netd_session.specs.Ends.{HasEnded, HasRun, IsSession, at_input, at_line, at_start, before_line, not_begun}
 use Rattle.netd_session.specs.Lines.{Goes, IsSaid, Ran, no_line, one_more, says_answer, says_bad}
@@ -20,22 +14,6 @@ use Rattle.netd_session.specs.Stops.{End}
 use Rattle.netd_session.specs.Turns.{Standing}
 use Rattle.netd_session.specs.World.{World}
 use Rattle.netd_session.specs.declared.turn.Turn.{Turn}
-
--- a packet's line changes nothing
-pub packet_stays : (uid : Uid) (mark : ℕ) (dest : Addr) (link : Option (List ℕ)) (n : ℕ) (s e : Standing) (turns : List Turn) (out : List ℕ)
-    → IsPacketLine uid mark dest link n s e turns out → e ≡ s
-packet_stays uid mark dest None n s e turns out (packet, made, traced) = traced.0
-packet_stays uid mark dest (Some name) n s e turns out is = by (link_named s.controller.state name) is
-  where
-    by : (o : Option ℕ) → IsBoundAndTraced uid mark dest o n s e turns out → e ≡ s
-    by (Some link) (packet, made, traced) = traced.0
-    by None told = told.0
-
--- a report changes nothing
-pub show_stays : (question : ShowLine) (n : ℕ) (s e : Standing) (turns : List Turn) (out : List ℕ) → IsAnsweredLine (line.Show question) n s e turns out → e ≡ s
-show_stays (show.Rules family) n s e turns out is = is.0
-show_stays (show.Table number) n s e turns out is = is.0
-show_stays show.Networks n s e turns out is = is.0
 
 -- the journal grew
 abbrev pub HasGrown : (before after : KernelView) → Type 0
@@ -59,10 +37,11 @@ stands_still s e same = grew_by_none s.kernel e.kernel (ap (λ (x : Standing). x
 
 -- what a line does to the journal
 answered_grew : (l : Line) (n : ℕ) (s e : Standing) (turns : List Turn) (out : List ℕ) → IsAnsweredLine l n s e turns out → HasGrown s.kernel e.kernel
-answered_grew line.Blank n s e turns out is = stands_still s e is.0
-answered_grew (line.Control command) n s e turns out is = (is.moments.entries, is.moments.grew)
-answered_grew (line.Trace (trace.Made uid mark dest link)) n s e turns out is = stands_still s e (packet_stays uid mark dest link n s e turns out is)
-answered_grew (line.Show question) n s e turns out is = stands_still s e (show_stays question n s e turns out is)
+answered_grew l n s e turns out is = by (kind_of_line l n s e turns out is)
+  where
+    by : IsKind l n s e turns out → HasGrown s.kernel e.kernel
+    by (is_command command same commanded) = (commanded.moments.entries, commanded.moments.grew)
+    by (is_other other keeps) = grew_by_none s.kernel e.kernel keeps.kernel
 
 pub goes_grew : (text : List ℕ) (n : ℕ) (s e : Standing) (turns : List Turn) (out : List ℕ) → Goes text n s e turns out → HasGrown s.kernel e.kernel
 goes_grew text n s e turns out goes = answered_grew goes.line n s e turns out goes.answered

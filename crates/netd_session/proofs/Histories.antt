@@ -38,10 +38,9 @@ use Rattle.rule_match.specs.declared.verdict.Verdict.{Verdict}
 use Rattle.script_reader.specs.Lines.{Spells}
 use Rattle.script_reader.specs.declared.line.Line.{Line}
 use Rattle.script_reader.specs.declared.line.Line.TheVariants as line
-use Rattle.script_reader.specs.declared.line.TraceLine.TheVariants as trace
 use Rattle.turn_text.specs.declared.answer.Answer.{Answer}
 use Rattle.turn_text.specs.declared.answer.Answer.TheVariants as answer
-use Rattle.netd_session.proofs.Growing.{packet_stays, show_stays}
+use Rattle.netd_session.proofs.Asking.{IsKind, Keeps, is_command, is_other, kind_of_line}
 use Rattle.netd_session.proofs.SessionPass.{said_ends}
 use Rattle.netd_session.proofs.Tellings.{not_with_input}
 use Rattle.netd_session.specs.Answers.{IsAnsweredLine, IsCommanded}
@@ -253,14 +252,15 @@ record Told (texts : List (List ℕ)) (turns : List Turn) (e : Standing) : Type 
 
 -- a line that asks nothing
 stays : (texts : List (List ℕ)) (turns more : List Turn) (m e : Standing) (text : List ℕ) (l : Line) → Told texts turns m → Spells text l
-    → ((command : Command) → l ≢ line.Control command) → e ≡ m → Told (texts ++ text ∷ []) (turns ++ more) e
-stays texts turns more m e text l told spells other same = subst (Told (texts ++ text ∷ []) (turns ++ more)) (sym same) record {
+    → ((command : Command) → l ≢ line.Control command) → Keeps m e → Told (texts ++ text ∷ []) (turns ++ more) e
+stays texts turns more m e text l told spells other keeps = record {
   parts = told.parts;
   said = another texts told.parts turns told.said text l more spells other;
-  follow = told.follow;
-  each = told.each;
+  follow = subst (λ (k : KernelView). Follow 0 start told.parts (length k.journal) e.controller.state) (sym keeps.kernel)
+      (subst (λ (c : ControllerView). Follow 0 start told.parts (length m.kernel.journal) c.state) (sym keeps.controller) told.follow);
+  each = λ rest. subst (λ (k : KernelView). AllByRecursion (Holds (k.journal ++ rest)) told.parts) (sym keeps.kernel) (told.each rest);
   halted = told.halted;
-  runs = told.runs;
+  runs = λ on. told.runs (ap (λ (c : ControllerView). c.halted) (sym keeps.controller) ∙ on);
 }
 
 module _ (texts : List (List ℕ)) (turns : List Turn) (m e : Standing) (text : List ℕ) (command : Command) (more : List Turn) (out : List ℕ)
@@ -321,14 +321,11 @@ module _ (texts : List (List ℕ)) (turns : List Turn) (m e : Standing) (text : 
 -- a line more
 told_line : (texts : List (List ℕ)) (turns : List Turn) (m e : Standing) (text : List ℕ) (more : List Turn) (out : List ℕ) → Told texts turns m
     → m.controller.halted ≡ None → Goes text (length texts + 1) m e more out → Told (texts ++ text ∷ []) (turns ++ more) e
-told_line texts turns m e text more out told running goes = by goes.line goes.spelled goes.answered
+told_line texts turns m e text more out told running goes = by (kind_of_line goes.line (length texts + 1) m e more out goes.answered)
   where
-    by : (l : Line) → Spells text l → IsAnsweredLine l (length texts + 1) m e more out → Told (texts ++ text ∷ []) (turns ++ more) e
-    by line.Blank spells is = stays texts turns more m e text line.Blank told spells (λ c e. absurd cc) is.0
-    by (line.Control command) spells is = commanded texts turns m e text command more out told running spells is goes.sends
-    by (line.Trace (trace.Made uid mark dest link)) spells is =
-        stays texts turns more m e text (line.Trace (trace.Made uid mark dest link)) told spells (λ c e. absurd cc) (packet_stays uid mark dest link (length texts + 1) m e more out is)
-    by (line.Show question) spells is = stays texts turns more m e text (line.Show question) told spells (λ c e. absurd cc) (show_stays question (length texts + 1) m e more out is)
+    by : IsKind goes.line (length texts + 1) m e more out → Told (texts ++ text ∷ []) (turns ++ more) e
+    by (is_command command same is) = commanded texts turns m e text command more out told running (subst (Spells text) same goes.spelled) is goes.sends
+    by (is_other other keeps) = stays texts turns more m e text goes.line told goes.spelled other keeps
 
 ran_told : {begun : Standing} {texts : List (List ℕ)} {e : Standing} {turns : List Turn} {out : List ℕ} → Ran begun texts e turns out → Told [] [] begun → Told texts turns e
 ran_told no_line told = told

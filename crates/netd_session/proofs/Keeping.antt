@@ -10,9 +10,7 @@ use Rattle.net_control.specs.View.{ControllerView}
 use Rattle.net_control.specs.declared.controller.StartFault.{StartFault}
 use Rattle.net_control.specs.declared.controller.StartFault.TheVariants as fault
 use Rattle.script_reader.specs.declared.line.Line.{Line}
-use Rattle.script_reader.specs.declared.line.Line.TheVariants as line
-use Rattle.script_reader.specs.declared.line.TraceLine.TheVariants as trace
-use Rattle.netd_session.proofs.Growing.{packet_stays, show_stays}
+use Rattle.netd_session.proofs.Asking.{IsKind, is_command, is_other, kind_of_line}
 use Rattle.netd_session.specs.Answers.{IsAnsweredLine}
 use Rattle.netd_session.specs.EndedView.{EndedView}
 use Rattle.netd_session.specs.Ends.{FailsToStart, HasEnded, HasRun, IsSession, at_input, at_line, at_start, before_line, not_begun, start_halted, start_refused}
@@ -34,10 +32,11 @@ stays : (s e : Standing) → e ≡ s → IsInOrder s.kernel → IsInOrder e.kern
 stays s e same = same_order s.kernel e.kernel (ap (λ (x : Standing). x.kernel) same)
 
 answered : (l : Line) (n : ℕ) (s e : Standing) (turns : List Turn) (out : List ℕ) → IsAnsweredLine l n s e turns out → IsInOrder s.kernel → IsInOrder e.kernel
-answered line.Blank n s e turns out is = stays s e is.0
-answered (line.Control command) n s e turns out is = λ order. record { few = is.bounded.within order.few; formed = is.formed order.formed }
-answered (line.Trace (trace.Made uid mark dest link)) n s e turns out is = stays s e (packet_stays uid mark dest link n s e turns out is)
-answered (line.Show question) n s e turns out is = stays s e (show_stays question n s e turns out is)
+answered l n s e turns out is order = by (kind_of_line l n s e turns out is)
+  where
+    by : IsKind l n s e turns out → IsInOrder e.kernel
+    by (is_command command same commanded) = record { few = commanded.bounded.within order.few; formed = commanded.formed order.formed }
+    by (is_other other keeps) = same_order s.kernel e.kernel keeps.kernel order
 
 said_order : (text : List ℕ) (n : ℕ) (s e : Standing) (turns : List Turn) (out : List ℕ) (whole : End) → IsSaid text n s e turns out whole
     → IsInOrder s.kernel → IsInOrder e.kernel

@@ -1,7 +1,13 @@
 pub mod Tellings
+pub mod Asking
+pub mod Rooms
+pub mod Requests
+pub mod Unwatched
 pub mod Growing
 pub mod Keeping
 pub mod Taking
+pub mod Traces
+pub mod Opened
 pub mod Starting
 pub mod Passing
 pub mod SessionPass

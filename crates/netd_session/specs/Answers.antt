@@ -1,10 +1,12 @@
 -- What a line's answer says, and what it changes.
-use Rattle.std.specs.Prelude.{◌≡◌, ℕ, List, [], ◌∷◌, ◌++◌, codes, Option, None, Some, Ok}
+use Rattle.std.specs.Prelude.{◌≡◌, ◌⊎◌, ℕ, List, [], ◌∷◌, ◌++◌, codes, Option, None, Some, Ok}
 use Rattle.kernel_model.specs.Form.{AreWellFormed}
 use Rattle.kernel_model.specs.State.{rules_of, routes_of}
 use Rattle.kernel_model.specs.View.{state_of}
 use Rattle.kernel_model.specs.Walk.{trail_of}
 use Rattle.kernel_model.specs.declared.step.Step.{Step}
+use Rattle.mark_server.specs.Sockets.{socket_of}
+use Rattle.mark_server.specs.declared.socket.Socket.{Socket}
 use Rattle.net_control.specs.Applied.{IsAnswered}
 use Rattle.net_control.specs.Bounds.{KeepsLimit}
 use Rattle.net_control.specs.Causes.{HasCause}
@@ -19,9 +21,10 @@ use Rattle.prefixes.specs.declared.addr.Addr.{Addr}
 use Rattle.report_text.specs.NetworkTexts.{networks_text}
 use Rattle.report_text.specs.RouteTexts.{routes_text}
 use Rattle.report_text.specs.RuleTexts.{rules_text}
+use Rattle.report_text.specs.SocketTexts.{sockets_text}
 use Rattle.report_text.specs.Trails.{trail_text}
 use Rattle.report_text.specs.Verdicts.{verdict_text}
-use Rattle.rule_match.specs.Packet.{IsMade}
+use Rattle.rule_match.specs.Packet.{IsMade, IsPassed, lo}
 use Rattle.rule_match.specs.declared.packet.Packet.{Packet}
 use Rattle.rule_match.specs.declared.verdict.Verdict.{Verdict}
 use Rattle.word_text.specs.Texts.{mark_text}
@@ -33,23 +36,33 @@ use Rattle.turn_text.specs.Texts.{answer_text, line_feed, numbered, refused_text
 use Rattle.turn_text.specs.declared.answer.Answer.{Answer}
 use Rattle.turn_text.specs.declared.answer.Answer.TheVariants as answer
 use Rattle.uid_ranges.specs.declared.range.Uid.{Uid}
+use Rattle.netd_session.specs.SocketLines.{IsSocketLine}
+use Rattle.netd_session.specs.Told.{IsDone, IsRefused, IsTold}
 use Rattle.netd_session.specs.Turns.{Standing, turn_of}
+use Rattle.netd_session.specs.Watches.{IsWatched, requests_text}
 use Rattle.netd_session.specs.declared.turn.Said.{Said}
 use Rattle.netd_session.specs.declared.turn.Said.TheVariants as said
 use Rattle.netd_session.specs.declared.turn.Turn.{Turn}
+use Rattle.netd_session.specs.declared.watch.Watch.{Watch}
 
 -- a blank line has no turn and changes nothing
 abbrev pub IsPassedOver : (s e : Standing) → List Turn → List ℕ → Type 0
 IsPassedOver s e turns out = (e ≡ s) × (turns ≡ []) × (out ≡ [])
 
 -- A command is answered by the controller, each answer by its cause. At every moment of it packets go where the policy
--- before or after it says, and lockdown holds.
+-- before or after it says, and lockdown holds. Before the answer stands what is said of the watched packet. No command
+-- touches a socket or the watch.
 pub record IsCommanded (command : Command) (n : ℕ) (s e : Standing) (turns : List Turn)
     (out : List ℕ) : Type 0 where
   pub a : Answer
   pub answered : IsAnswered (Ok a) command s.controller e.controller s.kernel e.kernel
   pub turns_are : turns ≡ turn_of n (said.Answered a) e ∷ []
-  pub text : out ≡ numbered n (answer_text a)
+  pub packet : Option Packet
+  pub watched : IsWatched s.sockets s.watch packet
+  pub text : out ≡ requests_text n e.controller.state packet s.kernel e.kernel
+      ++ numbered n (answer_text a)
+  pub sockets_stay : e.sockets ≡ s.sockets
+  pub watch_stays : e.watch ≡ s.watch
   pub caused : HasCause (Ok a) command s.controller e.controller s.kernel e.kernel
   pub bounded : KeepsLimit s.controller.state command s.kernel e.kernel
   pub formed : AreWellFormed s.kernel.journal → AreWellFormed e.kernel.journal
@@ -61,25 +74,22 @@ pub record IsCommanded (command : Command) (n : ℕ) (s e : Standing) (turns : L
   pub once : GoesOnce s.kernel e.kernel s.controller.state (changed s.controller.state command)
   pub as_before : IsAsBefore (Ok a) s.kernel e.kernel
 
--- a line that changes nothing, by what it says and by its text
-abbrev pub IsTold : Said → List ℕ → ℕ → (s e : Standing) → List Turn → List ℕ → Type 0
-IsTold what text n s e turns out = (e ≡ s) × (turns ≡ turn_of n what e ∷ [])
-    × (out ≡ numbered n text)
-
--- a question that is refused with this code
-abbrev pub IsRefused : Code → ℕ → (s e : Standing) → List Turn → List ℕ → Type 0
-IsRefused c n s e turns out =
-    IsTold (said.Answered (answer.Refused c)) (refused_text c) n s e turns out
-
 -- a report of what there is
 abbrev pub IsShown : List ℕ → ℕ → (s e : Standing) → List Turn → List ℕ → Type 0
 IsShown text n s e turns out = IsTold said.Shown text n s e turns out
 
--- where a packet with this mark goes, and the rules that it meets on the way
-abbrev pub went_text : StateView → ℕ → Verdict → List Step → List ℕ
-went_text state mark verdict trail =
+-- where a packet with this mark goes
+abbrev pub watch_text : StateView → ℕ → Verdict → List ℕ
+watch_text state mark verdict =
     codes "mark " ++ mark_text mark ++ codes " " ++ verdict_text state verdict ++ line_feed
-    ++ trail_text trail
+
+-- and the rules that it meets on the way
+abbrev pub went_text : StateView → ℕ → Verdict → List Step → List ℕ
+went_text state mark verdict trail = watch_text state mark verdict ++ trail_text trail
+
+-- where a packet goes that is passed on, and the rules that it meets on the way
+abbrev pub passed_text : StateView → Verdict → List Step → List ℕ
+passed_text state verdict trail = verdict_text state verdict ++ line_feed ++ trail_text trail
 
 -- a packet's line says where the policy sends it, and prints the rules that it meets on the way
 abbrev pub IsTraced : Packet → ℕ → (s e : Standing) → List Turn → List ℕ → Type 0
@@ -108,15 +118,52 @@ IsPacketLine uid mark dest None n s e turns out = IsMadeAndTraced uid mark dest 
 IsPacketLine uid mark dest (Some name) n s e turns out = IsBoundAndTraced uid mark dest
     (link_named s.controller.state name) n s e turns out
 
+-- what a socket sends to an address; a name that no socket has is refused
+abbrev pub IsSentAndTraced : Option Socket → Addr → ℕ → (s e : Standing) → List Turn → List ℕ → Type 0
+IsSentAndTraced None dest n s e turns out = IsRefused code.NoEntry n s e turns out
+IsSentAndTraced (Some socket) dest n s e turns out =
+    IsMadeAndTraced socket.uid socket.mark dest socket.bound n s e turns out
+
+-- A packet that came by a link and is passed on. One that came by `lo` is refused, and then a name that no link has.
+abbrev pub IsPassedAndTraced : Option ℕ → Addr → ℕ → (s e : Standing) → List Turn → List ℕ → Type 0
+IsPassedAndTraced None dest n s e turns out = IsRefused code.NoDevice n s e turns out
+IsPassedAndTraced (Some link) dest n s e turns out =
+    ((link ≡ lo) × IsRefused code.Invalid n s e turns out)
+    ⊎ ((packet : Packet) × IsPassed link dest packet
+    × IsTold (said.Went packet.mark (policy s.controller.state packet))
+    (passed_text s.controller.state (policy s.controller.state packet)
+    (trail_of (state_of s.kernel) packet)) n s e turns out)
+
+-- What a socket sends to an address is watched from now on, in place of what was; a name that no socket has is refused,
+-- and then what was watched still is.
+abbrev pub IsNowWatched : Option Socket → Watch → ℕ → (s e : Standing) → List Turn → List ℕ → Type 0
+IsNowWatched None watch n s e turns out = IsRefused code.NoEntry n s e turns out
+IsNowWatched (Some socket) watch n s e turns out =
+    (packet : Packet) × IsMade socket.uid socket.mark watch.dest socket.bound packet
+    × IsTold (said.Went packet.mark (policy s.controller.state packet))
+    (watch_text s.controller.state packet.mark (policy s.controller.state packet)) n
+    (record s { watch = Some watch }) e turns out
+
 -- what the line says, and what it changes
 abbrev pub IsAnsweredLine : Line → ℕ → (s e : Standing) → List Turn → List ℕ → Type 0
 IsAnsweredLine line.Blank n s e turns out = IsPassedOver s e turns out
 IsAnsweredLine (line.Control command) n s e turns out = IsCommanded command n s e turns out
 IsAnsweredLine (line.Trace (trace.Made uid mark dest link)) n s e turns out = IsPacketLine uid mark
     dest link n s e turns out
+IsAnsweredLine (line.Trace (trace.Trace name dest)) n s e turns out =
+    IsSentAndTraced (socket_of name s.sockets) dest n s e turns out
+IsAnsweredLine (line.Trace (trace.Passed link dest)) n s e turns out =
+    IsPassedAndTraced (link_named s.controller.state link) dest n s e turns out
+IsAnsweredLine (line.Trace (trace.Watch name dest)) n s e turns out =
+    IsNowWatched (socket_of name s.sockets) (record { socket = name; dest = dest }) n s e turns out
+IsAnsweredLine (line.Trace trace.WatchOff) n s e turns out =
+    IsDone n (record s { watch = None }) e turns out
+IsAnsweredLine (line.Socket call) n s e turns out = IsSocketLine call n s e turns out
 IsAnsweredLine (line.Show (show.Rules family)) n s e turns out = IsShown
     (rules_text s.controller.state (rules_of (state_of s.kernel) family)) n s e turns out
 IsAnsweredLine (line.Show (show.Table number)) n s e turns out = IsShown
     (routes_text s.controller.state (routes_of number (state_of s.kernel).tables)) n s e turns out
 IsAnsweredLine (line.Show show.Networks) n s e turns out = IsShown
     (networks_text s.controller.state) n s e turns out
+IsAnsweredLine (line.Show show.Sockets) n s e turns out = IsShown
+    (sockets_text s.controller.state s.sockets) n s e turns out

@@ -67,6 +67,8 @@ pub record HasBegun (before : KernelView) (begun : Standing) : Type 0 where
   pub started : IsStarted (Ok begun.controller) before begun.kernel
   pub moments : KeepsPolicy before begun.kernel start start
   pub sends : SendsByPolicy begun.controller begun.kernel
+  pub no_socket : begun.sockets ≡ []
+  pub no_watch : begun.watch ≡ None
 
 -- it began, these lines were answered in turn, and their answers were told whole; the controller runs
 pub record HasRun (old : World) (lines : List (List ℕ)) (stands : Standing) (turns : List Turn)

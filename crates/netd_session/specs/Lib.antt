@@ -4,6 +4,10 @@ pub mod EndedView
 pub mod Telling
 pub mod Passes
 pub mod Turns
+pub mod Watches
+pub mod Told
+pub mod SocketLines
+pub mod Talks
 pub mod Answers
 pub mod Lines
 pub mod Ends

@@ -1,6 +1,6 @@
 ghost use Rattle.std.specs.Prelude.{◌≡◌, [], None, OnOk, IfOk};
 ghost use Rattle.number_text.specs.Appends.{Appends};
-ghost use Rattle.turn_text.specs.Texts.{numbered, refused_text};
+ghost use Rattle.turn_text.specs.Texts.{numbered};
 ghost use Rattle.kernel_model.specs.State.{rules_of, routes_of};
 ghost use Rattle.kernel_model.specs.View.{state_of};
 ghost use Rattle.kernel_model.specs.Walk.{trail_of};
@@ -9,22 +9,39 @@ ghost use Rattle.policy_meaning.specs.Policy.{policy};
 ghost use Rattle.report_text.specs.NetworkTexts.{networks_text};
 ghost use Rattle.report_text.specs.RouteTexts.{routes_text};
 ghost use Rattle.report_text.specs.RuleTexts.{rules_text};
-ghost use Rattle.netd_session.specs.Answers.{went_text};
+ghost use Rattle.report_text.specs.SocketTexts.{sockets_text};
+ghost use Rattle.netd_session.specs.Answers.{passed_text, watch_text, went_text};
 
 use crate::turn::Said;
 use kernel_model::Kernel;
+use mark_server::SocketTable;
 use net_control::Controller;
-use net_names::Code;
 use number_text::append_bytes;
 use packet_trace::{Trail, follow};
 use policy_meaning::table_means_policy;
 use policy_state::State;
 use prefixes::Family;
-use report_text::{write_networks, write_rules, write_table, write_trail, write_verdict};
+use report_text::{write_networks, write_rules, write_sockets, write_table, write_trail, write_verdict};
 use rule_match::{Packet, Verdict};
 use std::alloc::{AllocError, Global};
-use turn_text::{write_line_number, write_refused};
+use turn_text::write_line_number;
 use word_text::write_mark;
+
+// Appends where a packet goes, with its mark.
+fn write_marked_verdict(
+    state: &State,
+    mark: u32,
+    verdict: &Verdict,
+    answer: &mut Vec<u8>,
+) -> Result<(), AllocError>
+    ensures { Appends answer.old answer.new result (watch_text state.now mark verdict.now) }
+{
+    append_bytes(b"mark ", answer)?;
+    write_mark(mark, answer)?;
+    append_bytes(b" ", answer)?;
+    write_verdict(state, verdict, answer)?;
+    append_bytes(b"\n", answer)
+}
 
 // Appends the text of a packet's way.
 fn write_way(
@@ -37,11 +54,7 @@ fn write_way(
     ensures { Appends answer.old answer.new result
         (went_text state.now mark verdict.now trail.now.steps) }
 {
-    append_bytes(b"mark ", answer)?;
-    write_mark(mark, answer)?;
-    append_bytes(b" ", answer)?;
-    write_verdict(state, verdict, answer)?;
-    append_bytes(b"\n", answer)?;
+    write_marked_verdict(state, mark, verdict, answer)?;
     write_trail(trail, answer)
 }
 
@@ -71,6 +84,80 @@ pub(crate) fn tell_packet<K: Kernel>(
     let mark = packet.mark();
     write_line_number(number, answer)?;
     write_way(controller.state(), mark, &verdict, &trail, answer)?;
+    Ok(Said::Went { mark, verdict })
+}
+
+// Appends the text of a way of a packet that is passed on.
+fn write_passed_way(
+    state: &State,
+    verdict: &Verdict,
+    trail: &Trail,
+    answer: &mut Vec<u8>,
+) -> Result<(), AllocError>
+    ensures { Appends answer.old answer.new result
+        (passed_text state.now verdict.now trail.now.steps) }
+{
+    write_verdict(state, verdict, answer)?;
+    append_bytes(b"\n", answer)?;
+    write_trail(trail, answer)
+}
+
+// Tells where the policy sends a packet that is passed on, which is where the kernel's rules send it, and the rules that it
+// meets.
+pub(crate) fn tell_passed<K: Kernel>(
+    alloc: Global,
+    number: u32,
+    packet: &Packet,
+    controller: &Controller,
+    kernel: &K,
+    answer: &mut Vec<u8>,
+) -> Result<Said, AllocError>
+    requires kept { IsKept controller.now (K.seen kernel.now) }
+    requires runs { controller.now.halted ≡ None }
+    requires empty { answer.old.items ≡ [] }
+    ensures said { IfOk result
+        (λ said. said ≡ Said.Went packet.now.mark (policy controller.now.state packet.now)) }
+    ensures text { OnOk result
+        (answer.new.items
+        ≡ numbered number
+        (passed_text controller.now.state (policy controller.now.state packet.now)
+        (trail_of (state_of (K.seen kernel.now)) packet.now))) }
+{
+    table_means_policy();
+    let trail = follow(alloc, kernel, packet)?;
+    let verdict = trail.verdict();
+    write_line_number(number, answer)?;
+    write_passed_way(controller.state(), &verdict, &trail, answer)?;
+    Ok(Said::Went {
+        mark: packet.mark(),
+        verdict,
+    })
+}
+
+// Tells where the policy sends the packet, which is where the kernel's rules send it.
+pub(crate) fn tell_verdict<K: Kernel>(
+    number: u32,
+    packet: &Packet,
+    controller: &Controller,
+    kernel: &K,
+    answer: &mut Vec<u8>,
+) -> Result<Said, AllocError>
+    requires kept { IsKept controller.now (K.seen kernel.now) }
+    requires runs { controller.now.halted ≡ None }
+    requires empty { answer.old.items ≡ [] }
+    ensures said { IfOk result
+        (λ said. said ≡ Said.Went packet.now.mark (policy controller.now.state packet.now)) }
+    ensures text { OnOk result
+        (answer.new.items
+        ≡ numbered number
+        (watch_text controller.now.state packet.now.mark
+        (policy controller.now.state packet.now))) }
+{
+    table_means_policy();
+    let verdict = kernel.walk(packet);
+    let mark = packet.mark();
+    write_line_number(number, answer)?;
+    write_marked_verdict(controller.state(), mark, &verdict, answer)?;
     Ok(Said::Went { mark, verdict })
 }
 
@@ -125,11 +212,17 @@ pub(crate) fn tell_networks(
     write_networks(controller.state(), answer)
 }
 
-// Tells why a question is refused.
-pub(crate) fn tell_refusal(number: u32, code: Code, answer: &mut Vec<u8>) -> Result<(), AllocError>
+// Tells the sockets, with the names of the links that they are bound to.
+pub(crate) fn tell_sockets(
+    number: u32,
+    controller: &Controller,
+    sockets: &SocketTable,
+    answer: &mut Vec<u8>,
+) -> Result<(), AllocError>
     requires empty { answer.old.items ≡ [] }
-    ensures text { OnOk result (answer.new.items ≡ numbered number (refused_text code)) }
+    ensures text { OnOk result
+        (answer.new.items ≡ numbered number (sockets_text controller.now.state sockets.now)) }
 {
     write_line_number(number, answer)?;
-    write_refused(code, answer)
+    write_sockets(controller.state(), sockets, answer)
 }

@@ -136,6 +136,13 @@ impl Ended {
         Status::of(self.end)
     }
 
+    /// The turns, in order.
+    pub fn turns(&self) -> &[Turn]
+        ensures { result.now ≡ self.now.turns }
+    {
+        self.turns.as_slice()
+    }
+
     /// How many turns there were.
     pub fn turn_count(&self) -> usize
         ensures { result ≡ length self.now.turns }

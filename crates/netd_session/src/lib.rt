@@ -3,16 +3,21 @@
 #![tactic(auto)]
 
 mod answer;
+mod command;
 mod end;
 mod line;
 mod output;
 mod printing;
 mod question;
 mod script;
+mod sockets;
+mod trace;
 mod turn;
+mod watch;
 
 pub use end::{Ended, Status, Stop};
 pub use output::offer;
 pub use printing::check;
 pub use script::session;
 pub use turn::{Said, Turn};
+pub use watch::Watch;

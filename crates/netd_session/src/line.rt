@@ -1,28 +1,43 @@
-ghost use Rattle.std.specs.Prelude.{◌≡◌, ◌++◌, ◌∷◌, ◌<◌, [], None, vec_len, vec_capacity};
+ghost use Rattle.std.specs.Prelude.{◌≡◌, ◌+◌, ◌++◌, ◌∷◌, ◌<◌, ◌≤◌, [], None, OnOk, vec_len, vec_capacity};
 ghost use Rattle.net_io.specs.Streams.{CanCount};
 ghost use Rattle.net_control.specs.Moments.{SendsByPolicy};
 ghost use Rattle.net_control.specs.View.{IsKept};
 
+use crate::command::apply_watched;
 use crate::end::Stop;
 use crate::output::{offer, tell_bad_line};
 use crate::turn::{Said, Turn};
+use crate::watch::Watch;
 use kernel_model::Kernel;
+use mark_server::SocketTable;
 use net_control::Controller;
 use net_io::Sink;
 use policy_state::Command;
-use script_reader::{Line, LineFault, TraceLine, read_line};
+use rule_match::Packet;
+use script_reader::{Line, LineFault, read_line};
 use std::alloc::{AllocError, Global};
 use turn_text::put_answer;
 
-/// Room for the answer to any command.
-const ANSWER_ROOM: usize = 80;
+/// Room for the answer to any command, and for what is said of two requests of it before.
+const ANSWER_ROOM: usize = 300;
 
 // Puts a turn last, in the room that is there.
-fn put_turn(turns: &mut Vec<Turn>, turn: Turn)
+pub(crate) fn put_turn(turns: &mut Vec<Turn>, turn: Turn)
     requires { vec_len turns.old < vec_capacity turns.old }
     ensures { turns.new.items ≡ turns.old.items ++ turn ∷ [] }
 {
     let _ = turns.push(turn);
+}
+
+// Takes the room for a turn and its text.
+pub(crate) fn make_room(turns: &mut Vec<Turn>, answer: &mut Vec<u8>) -> Result<(), AllocError>
+    ensures turns { turns.new.items ≡ turns.old.items }
+    ensures answer { answer.new.items ≡ answer.old.items }
+    ensures turn_room { OnOk result (vec_len turns.new < vec_capacity turns.new) }
+    ensures answer_room { OnOk result (vec_len answer.new + 300 ≤ vec_capacity answer.new) }
+{
+    turns.reserve(1)?;
+    answer.reserve(ANSWER_ROOM)
 }
 
 /// What a session keeps from line to line.
@@ -30,6 +45,8 @@ fn put_turn(turns: &mut Vec<Turn>, turn: Turn)
 pub struct Talk {
     pub(crate) alloc: Global,
     pub(crate) controller: Controller,
+    pub(crate) sockets: SocketTable,
+    pub(crate) watch: Option<Watch>,
     pub(crate) turns: Vec<Turn>,
     pub(crate) answer: Vec<u8>,
 }
@@ -38,16 +55,21 @@ impl Talk {
     ghost use Rattle.script_reader.specs.declared.line.Line.TheVariants as line;
     ghost use Rattle.netd_session.specs.Lines.{Answers, Takes, halt_of};
     ghost use Rattle.netd_session.specs.Telling.{Tells};
-    ghost use Rattle.netd_session.specs.Turns.{standing};
+    ghost use Rattle.netd_session.specs.Talks.{stands};
+    ghost use Rattle.netd_session.specs.Watches.{IsWatched};
 
     /// A session that has begun.
     pub fn new(alloc: Global, controller: Controller, answer: Vec<u8>) -> Talk
         ensures controller { result.controller ≡ controller }
+        ensures sockets { result.sockets ≡ [] }
+        ensures watch { result.watch ≡ None }
         ensures turns { result.turns.items ≡ [] }
     {
         Talk {
             alloc,
             controller,
+            sockets: SocketTable::new(alloc),
+            watch: None,
             turns: Vec::new(alloc),
             answer,
         }
@@ -58,6 +80,20 @@ impl Talk {
         ensures { result.items ≡ self.turns.items }
     {
         self.turns
+    }
+
+    // The packet that is watched, as its socket stands.
+    fn watched_packet(&self) -> Option<Packet>
+        ensures { IsWatched self.now.sockets self.now.watch result }
+    {
+        let watch = self.watch?;
+        let socket = self.sockets.get(&watch.socket)?;
+        Some(Packet::made(
+            socket.uid,
+            socket.mark,
+            watch.dest,
+            socket.bound,
+        ))
     }
 
     // The room is taken first: once the kernel was asked, nothing may fail.
@@ -72,15 +108,23 @@ impl Talk {
         requires runs { self.old.controller.halted ≡ None }
         requires empty { self.old.answer.items ≡ [] }
         ensures answers { Answers result (line.Control command.now) number
-            (standing self.old.controller (K.seen kernel.old))
-            (standing self.new.controller (K.seen kernel.new))
+            (stands self.old (K.seen kernel.old))
+            (stands self.new (K.seen kernel.new))
             self.old.turns.items self.new.turns.items self.new.answer.items }
         ensures kept { IsKept self.new.controller (K.seen kernel.new) }
         ensures sends { SendsByPolicy self.new.controller (K.seen kernel.new) }
     {
-        self.turns.reserve(1)?;
-        self.answer.reserve(ANSWER_ROOM)?;
-        let answer = self.controller.apply(kernel, command)?;
+        make_room(&mut self.turns, &mut self.answer)?;
+        let packet = self.watched_packet();
+        let answer = apply_watched(
+            self.alloc,
+            number,
+            command,
+            packet,
+            &mut self.controller,
+            kernel,
+            &mut self.answer,
+        )?;
         put_answer(number, &answer, &mut self.answer);
         let turn = Turn {
             line: number,
@@ -102,8 +146,8 @@ impl Talk {
         requires runs { self.old.controller.halted ≡ None }
         requires empty { self.old.answer.items ≡ [] }
         ensures answers { Answers result line.now number
-            (standing self.old.controller (K.seen kernel.old))
-            (standing self.new.controller (K.seen kernel.new))
+            (stands self.old (K.seen kernel.old))
+            (stands self.new (K.seen kernel.new))
             self.old.turns.items self.new.turns.items self.new.answer.items }
         ensures kept { IsKept self.new.controller (K.seen kernel.new) }
         ensures sends { SendsByPolicy self.new.controller (K.seen kernel.new) }
@@ -111,14 +155,8 @@ impl Talk {
         match line {
             Line::Blank => Ok(()),
             Line::Control(command) => self.answer_command(number, command, kernel),
-            Line::Trace(
-                TraceLine::Made {
-                    uid,
-                    mark,
-                    dest,
-                    link,
-                },
-            ) => self.answer_made(number, *uid, *mark, *dest, link, kernel),
+            Line::Socket(call) => self.answer_socket(number, call, kernel),
+            Line::Trace(trace) => self.answer_trace(number, trace, kernel),
             Line::Show(show) => self.answer_show(number, show, kernel),
         }
     }
@@ -149,8 +187,8 @@ impl Talk {
         requires sends { SendsByPolicy self.old.controller (K.seen kernel.old) }
         requires runs { self.old.controller.halted ≡ None }
         ensures takes { Takes result text.now number
-            (standing self.old.controller (K.seen kernel.old))
-            (standing self.new.controller (K.seen kernel.new))
+            (stands self.old (K.seen kernel.old))
+            (stands self.new (K.seen kernel.new))
             self.old.turns.items self.new.turns.items
             (W.seen sink.old) (W.seen sink.new) }
         ensures kept { IsKept self.new.controller (K.seen kernel.new) }

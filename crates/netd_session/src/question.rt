@@ -1,41 +1,34 @@
-ghost use Rattle.std.specs.Prelude.{◌≡◌, ◌++◌, ◌∷◌, [], None, Some, OnOk, OnErr};
+ghost use Rattle.std.specs.Prelude.{◌≡◌, ◌++◌, ◌∷◌, [], OnOk, OnErr};
 ghost use Rattle.script_reader.specs.declared.line.Line.TheVariants as line;
-ghost use Rattle.script_reader.specs.declared.line.TraceLine.TheVariants as trace;
 ghost use Rattle.kernel_model.specs.State.{rules_of, routes_of};
 ghost use Rattle.kernel_model.specs.View.{state_of};
-ghost use Rattle.kernel_model.specs.Walk.{trail_of};
-ghost use Rattle.net_control.specs.View.{IsKept};
-ghost use Rattle.policy_meaning.specs.Policy.{policy};
 ghost use Rattle.report_text.specs.NetworkTexts.{networks_text};
 ghost use Rattle.report_text.specs.RouteTexts.{routes_text};
 ghost use Rattle.report_text.specs.RuleTexts.{rules_text};
-ghost use Rattle.turn_text.specs.Texts.{numbered, refused_text};
-ghost use Rattle.turn_text.specs.declared.answer.Answer.TheVariants as answer;
-ghost use Rattle.netd_session.specs.Answers.{went_text};
+ghost use Rattle.report_text.specs.SocketTexts.{sockets_text};
+ghost use Rattle.turn_text.specs.Texts.{IsCounted, answer_text, numbered};
 ghost use Rattle.netd_session.specs.Lines.{Answers};
-ghost use Rattle.netd_session.specs.Turns.{standing, turn_of};
+ghost use Rattle.netd_session.specs.Talks.{stands};
+ghost use Rattle.netd_session.specs.Turns.{turn_of};
 
-use crate::answer::{tell_networks, tell_packet, tell_refusal, tell_rules, tell_table};
-use crate::line::Talk;
+use crate::answer::{tell_networks, tell_rules, tell_sockets, tell_table};
+use crate::line::{Talk, make_room};
 use crate::turn::{Said, Turn};
 use kernel_model::Kernel;
-use net_names::{Code, Name};
-use prefixes::{Addr, Family};
-use rule_match::Packet;
+use prefixes::Family;
 use script_reader::ShowLine;
 use std::alloc::AllocError;
-use turn_text::Answer;
-use uid_ranges::Uid;
+use turn_text::{Answer, put_answer};
 
 // Questions change nothing: each has one turn and one text.
 impl Talk {
     // Puts a turn last after which nothing has changed.
-    fn note<K: Kernel>(&mut self, number: u32, said: Said, kernel: &K) -> Result<(), AllocError>
+    pub(crate) fn note<K: Kernel>(&mut self, number: u32, said: Said, kernel: &K) -> Result<(), AllocError>
         ensures ok { OnOk result
             (self.new.turns.items ≡ self.old.turns.items
-            ++ turn_of number said (standing self.old.controller (K.seen kernel.now)) ∷ []) }
+            ++ turn_of number said (stands self.old (K.seen kernel.now)) ∷ []) }
         ensures err { OnErr result (self.new.turns.items ≡ self.old.turns.items) }
-        ensures controller { self.new.controller ≡ self.old.controller }
+        ensures stays { stands self.new (K.seen kernel.now) ≡ stands self.old (K.seen kernel.now) }
         ensures answer { self.new.answer.items ≡ self.old.answer.items }
     {
         self.turns.push(Turn {
@@ -46,88 +39,42 @@ impl Talk {
         Ok(())
     }
 
-    fn answer_packet<K: Kernel>(
+    /// Answers a line after which nothing has changed by what became of it.
+    pub(crate) fn answer_plainly<K: Kernel>(
         &mut self,
         number: u32,
-        packet: &Packet,
+        answer: Answer,
         kernel: &K,
     ) -> Result<(), AllocError>
-        requires kept { IsKept self.old.controller (K.seen kernel.now) }
-        requires runs { self.old.controller.halted ≡ None }
+        requires empty { self.old.answer.items ≡ [] }
+        requires counted { IsCounted answer }
+        ensures ok { OnOk result
+            (self.new.turns.items ≡ self.old.turns.items
+            ++ turn_of number (Said.Answered answer) (stands self.old (K.seen kernel.now)) ∷ []) }
+        ensures text { OnOk result
+            (self.new.answer.items ≡ numbered number (answer_text answer)) }
+        ensures err { OnErr result (self.new.turns.items ≡ self.old.turns.items) }
+        ensures stays { stands self.new (K.seen kernel.now) ≡ stands self.old (K.seen kernel.now) }
+    {
+        make_room(&mut self.turns, &mut self.answer)?;
+        put_answer(number, &answer, &mut self.answer);
+        self.put_said(number, Said::Answered(answer), kernel);
+        Ok(())
+    }
+
+    fn show_sockets<K: Kernel>(&mut self, number: u32, kernel: &K) -> Result<(), AllocError>
         requires empty { self.old.answer.items ≡ [] }
         ensures ok { OnOk result
             (self.new.turns.items ≡ self.old.turns.items
-            ++ turn_of number
-            (Said.Went packet.now.mark (policy self.old.controller.state packet.now))
-            (standing self.old.controller (K.seen kernel.now)) ∷ []) }
+            ++ turn_of number Said.Shown (stands self.old (K.seen kernel.now)) ∷ []) }
         ensures text { OnOk result
-            (self.new.answer.items
-            ≡ numbered number
-            (went_text self.old.controller.state packet.now.mark
-            (policy self.old.controller.state packet.now)
-            (trail_of (state_of (K.seen kernel.now)) packet.now))) }
+            (self.new.answer.items ≡ numbered number
+            (sockets_text self.old.controller.state self.old.sockets)) }
         ensures err { OnErr result (self.new.turns.items ≡ self.old.turns.items) }
-        ensures controller { self.new.controller ≡ self.old.controller }
+        ensures stays { stands self.new (K.seen kernel.now) ≡ stands self.old (K.seen kernel.now) }
     {
-        let said = tell_packet(
-            self.alloc,
-            number,
-            packet,
-            &self.controller,
-            kernel,
-            &mut self.answer,
-        )?;
-        self.note(number, said, kernel)
-    }
-
-    fn answer_unknown_link<K: Kernel>(&mut self, number: u32, kernel: &K) -> Result<(), AllocError>
-        requires empty { self.old.answer.items ≡ [] }
-        ensures ok { OnOk result
-            (self.new.turns.items ≡ self.old.turns.items
-            ++ turn_of number (Said.Answered (answer.Refused Code.NoDevice))
-            (standing self.old.controller (K.seen kernel.now)) ∷ []) }
-        ensures text { OnOk result
-            (self.new.answer.items ≡ numbered number (refused_text Code.NoDevice)) }
-        ensures err { OnErr result (self.new.turns.items ≡ self.old.turns.items) }
-        ensures controller { self.new.controller ≡ self.old.controller }
-    {
-        let code = Code::NoDevice;
-        tell_refusal(number, code, &mut self.answer)?;
-        self.note(number, Said::Answered(Answer::Refused { code }), kernel)
-    }
-
-    /// Answers where a packet goes. A link of an unknown name is refused.
-    pub(crate) fn answer_made<K: Kernel>(
-        &mut self,
-        number: u32,
-        uid: Uid,
-        mark: u32,
-        dest: Addr,
-        link: &Option<Name>,
-        kernel: &K,
-    ) -> Result<(), AllocError>
-        requires kept { IsKept self.old.controller (K.seen kernel.now) }
-        requires runs { self.old.controller.halted ≡ None }
-        requires empty { self.old.answer.items ≡ [] }
-        ensures answers { Answers result (line.Trace (trace.Made uid mark dest link.now)) number
-            (standing self.old.controller (K.seen kernel.now))
-            (standing self.new.controller (K.seen kernel.now)) self.old.turns.items
-            self.new.turns.items self.new.answer.items }
-        ensures controller { self.new.controller ≡ self.old.controller }
-    {
-        match link {
-            None => {
-                let packet = Packet::made(uid, mark, dest, None);
-                self.answer_packet(number, &packet, kernel)
-            }
-            Some(name) => match self.controller.state().link_named(name) {
-                Some(index) => {
-                    let packet = Packet::made(uid, mark, dest, Some(index));
-                    self.answer_packet(number, &packet, kernel)
-                }
-                None => self.answer_unknown_link(number, kernel),
-            },
-        }
+        tell_sockets(number, &self.controller, &self.sockets, &mut self.answer)?;
+        self.note(number, Said::Shown, kernel)
     }
 
     fn show_rules<K: Kernel>(
@@ -139,14 +86,14 @@ impl Talk {
         requires empty { self.old.answer.items ≡ [] }
         ensures ok { OnOk result
             (self.new.turns.items ≡ self.old.turns.items
-            ++ turn_of number Said.Shown (standing self.old.controller (K.seen kernel.now)) ∷ []) }
+            ++ turn_of number Said.Shown (stands self.old (K.seen kernel.now)) ∷ []) }
         ensures text { OnOk result
             (self.new.answer.items
             ≡ numbered number
             (rules_text self.old.controller.state
             (rules_of (state_of (K.seen kernel.now)) family))) }
         ensures err { OnErr result (self.new.turns.items ≡ self.old.turns.items) }
-        ensures controller { self.new.controller ≡ self.old.controller }
+        ensures stays { stands self.new (K.seen kernel.now) ≡ stands self.old (K.seen kernel.now) }
     {
         tell_rules(number, family, &self.controller, kernel, &mut self.answer)?;
         self.note(number, Said::Shown, kernel)
@@ -161,14 +108,14 @@ impl Talk {
         requires empty { self.old.answer.items ≡ [] }
         ensures ok { OnOk result
             (self.new.turns.items ≡ self.old.turns.items
-            ++ turn_of number Said.Shown (standing self.old.controller (K.seen kernel.now)) ∷ []) }
+            ++ turn_of number Said.Shown (stands self.old (K.seen kernel.now)) ∷ []) }
         ensures text { OnOk result
             (self.new.answer.items
             ≡ numbered number
             (routes_text self.old.controller.state
             (routes_of table (state_of (K.seen kernel.now)).tables))) }
         ensures err { OnErr result (self.new.turns.items ≡ self.old.turns.items) }
-        ensures controller { self.new.controller ≡ self.old.controller }
+        ensures stays { stands self.new (K.seen kernel.now) ≡ stands self.old (K.seen kernel.now) }
     {
         tell_table(number, table, &self.controller, kernel, &mut self.answer)?;
         self.note(number, Said::Shown, kernel)
@@ -178,11 +125,11 @@ impl Talk {
         requires empty { self.old.answer.items ≡ [] }
         ensures ok { OnOk result
             (self.new.turns.items ≡ self.old.turns.items
-            ++ turn_of number Said.Shown (standing self.old.controller (K.seen kernel.now)) ∷ []) }
+            ++ turn_of number Said.Shown (stands self.old (K.seen kernel.now)) ∷ []) }
         ensures text { OnOk result
             (self.new.answer.items ≡ numbered number (networks_text self.old.controller.state)) }
         ensures err { OnErr result (self.new.turns.items ≡ self.old.turns.items) }
-        ensures controller { self.new.controller ≡ self.old.controller }
+        ensures stays { stands self.new (K.seen kernel.now) ≡ stands self.old (K.seen kernel.now) }
     {
         tell_networks(number, &self.controller, &mut self.answer)?;
         self.note(number, Said::Shown, kernel)
@@ -197,15 +144,16 @@ impl Talk {
     ) -> Result<(), AllocError>
         requires empty { self.old.answer.items ≡ [] }
         ensures answers { Answers result (line.Show show.now) number
-            (standing self.old.controller (K.seen kernel.now))
-            (standing self.new.controller (K.seen kernel.now)) self.old.turns.items
+            (stands self.old (K.seen kernel.now))
+            (stands self.new (K.seen kernel.now)) self.old.turns.items
             self.new.turns.items self.new.answer.items }
-        ensures controller { self.new.controller ≡ self.old.controller }
+        ensures stays { stands self.new (K.seen kernel.now) ≡ stands self.old (K.seen kernel.now) }
     {
         match *show {
             ShowLine::Rules { family } => self.show_rules(number, family, kernel),
             ShowLine::Table { number: table } => self.show_table(number, table, kernel),
             ShowLine::Networks => self.show_networks(number, kernel),
+            ShowLine::Sockets => self.show_sockets(number, kernel),
         }
     }
 }

@@ -9,7 +9,7 @@ ghost use Rattle.turn_text.specs.Texts.{start_room};
 ghost use Rattle.netd_session.specs.Causes.{IsCausedSession};
 ghost use Rattle.netd_session.specs.Ends.{HasBegun, IsSession, TellsStart};
 ghost use Rattle.netd_session.specs.History.{HasHistory};
-ghost use Rattle.netd_session.specs.Turns.{standing};
+ghost use Rattle.netd_session.specs.Talks.{stands};
 ghost use Rattle.netd_session.specs.World.{MayBegin, world};
 
 use crate::end::{Ended, Stop};
@@ -63,7 +63,7 @@ fn answer_lines<S: Source, W: Sink, K: Kernel>(
     requires runs { talk.old.controller.halted ≡ None }
     requires no_turn { talk.old.turns.items ≡ [] }
     ensures { (before : KernelView)
-        → HasBegun before (standing talk.old.controller (K.seen kernel.old)) → IsSession
+        → HasBegun before (stands talk.old (K.seen kernel.old)) → IsSession
         (world (S.seen source.old) (W.seen sink.old) before)
         (world (S.seen source.new) (W.seen sink.new) (K.seen kernel.new))
         (record { result = result; turns = talk.new.turns.items }) }

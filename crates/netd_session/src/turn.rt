@@ -4,8 +4,10 @@ use turn_text::Answer;
 /// What a line's answer says.
 #[derive(Clone, Copy, Debug, PartialEq, Eq)]
 pub enum Said {
-    /// What became of a command; or the refusal of a question.
+    /// What became of a command; or that another line is done, or refused.
     Answered(Answer),
+    /// The mark of a socket after a call.
+    Marked { mark: u32 },
     /// Where a packet goes.
     Went { mark: u32, verdict: Verdict },
     /// A report.

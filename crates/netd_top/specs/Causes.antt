@@ -1,6 +1,6 @@
 -- Why the program ends as it does, exit status by exit status.
 use Rattle.std.specs.Prelude.{◌≡◌, ◌⊎◌, ◌↔◌, ℕ, ◌<◌, List}
-use Rattle.command_words.specs.Forms.{FormView, IsForm, run, wordless}
+use Rattle.command_words.specs.Forms.{FormView, IsForm, run, soak, wordless}
 use Rattle.command_words.specs.declared.form.Wordless.TheVariants.{Check}
 use Rattle.net_control.specs.Causes.{BrokeSome}
 use Rattle.netd_session.specs.Causes.{ComesWhere, HasCauses, StandsThen}
@@ -32,6 +32,11 @@ RanCheck old new s =
     × HasCauses old new s did.given did.lines
     × IsWrittenThen s (streams_of old) (streams_of new) result did.lines did.out
 
+-- `soak` ends well, or the sink failed, or it answers 6: memory ran out, or its session didn't reach the end of the made script.
+-- That a made script has no bad line, so that the latter never happens, is not proved.
+abbrev pub EndsSoak : Status → Type 0
+EndsSoak s = (s ≡ status.Finished) ⊎ ((s ≡ status.Stopped stop.WriteFault) ⊎ (s ≡ status.Stopped stop.Memory))
+
 -- The causes of each exit status. Running out of memory has none.
 pub record HasRunCauses (words : List (List ℕ)) (old new : World) (s : Status) : Type 0 where
   -- 2: exactly where the words have no form
@@ -49,3 +54,5 @@ pub record HasRunCauses (words : List (List ℕ)) (old new : World) (s : Status)
   -- the same of a check, whose kernel was asked nothing
   pub check : IsForm words (wordless Check)
       → RanCheck old new s ⊎ ((s ≡ status.Stopped stop.Memory) × (new ≡ old))
+  -- `soak` reads nothing of its source, and never ends with 3, 4, 7, 8 or 9
+  pub soak : (seed count : ℕ) → IsForm words (soak seed count) → EndsSoak s × (new.source ≡ old.source)

@@ -1,3 +1,4 @@
+pub mod Soak
 pub mod Run
 pub mod Causes
 pub mod History

@@ -1,6 +1,6 @@
 -- What the program does, by the form of its words.
-use Rattle.std.specs.Prelude.{◌≡◌, ◌⊎◌, ℕ, List, ◌∷◌, [], ◌++◌, codes, Some, Ok, Err}
-use Rattle.command_words.specs.Forms.{FormView, IsForm, run, wordless}
+use Rattle.std.specs.Prelude.{◌≡◌, ◌⊎◌, ◌≤◌, ℕ, List, ◌∷◌, [], ◌++◌, codes, Some, Ok, Err}
+use Rattle.command_words.specs.Forms.{FormView, IsForm, run, soak, wordless}
 use Rattle.command_words.specs.declared.form.Wordless.TheVariants.{Check}
 use Rattle.kernel_model.specs.View.{KernelView}
 use Rattle.net_io.specs.Streams.{SinkView}
@@ -13,6 +13,7 @@ use Rattle.netd_session.specs.World.{World, streams_of}
 use Rattle.netd_session.specs.declared.end.Status.{Status}
 use Rattle.netd_session.specs.declared.end.Status.TheVariants as status
 use Rattle.netd_session.specs.declared.end.Stop.TheVariants as stop
+use Rattle.netd_top.specs.Soak.{Soaks}
 
 -- a kernel that refuses and breaks what these lists say
 abbrev pub armed : KernelView → List ℕ → List ℕ → KernelView
@@ -32,11 +33,21 @@ DoesForm (run refuse breaks) old new s =
 DoesForm (wordless Check) old new s =
     (result : End) × IsCheck (streams_of old) (streams_of new) result
     × (s ≡ status_of result) × (new.kernel ≡ old.kernel)
+-- `soak`: a session over memory on a made script, and its sums; of the source nothing is read
+DoesForm (soak seed count) old new s =
+    Soaks seed count old.kernel new.kernel old.sink new.sink s × (new.source ≡ old.source)
+
+-- at most 100,000 lines are drawn
+abbrev pub IsShort : FormView → Type 0
+IsShort (run refuse breaks) = Unit {0}
+IsShort (wordless form) = Unit {0}
+IsShort (soak seed count) = count ≤ 100000
 
 -- what is printed where the words have no form
 abbrev pub usage_text : List ℕ
 usage_text = codes "usage: netd_run run [--refuse LIST] [--break LIST]" ++ 10
-    ∷ codes "       netd_run check" ++ 10 ∷ []
+    ∷ codes "       netd_run check" ++ 10
+    ∷ codes "       netd_run soak SEED COUNT" ++ 10 ∷ []
 
 -- the status once the usage text was told, or a prefix of it
 abbrev pub usage_status : End → Status

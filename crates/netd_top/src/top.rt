@@ -6,8 +6,9 @@ ghost use Rattle.net_io.specs.Streams.{CanCount};
 ghost use Rattle.netd_session.specs.World.{MayBegin, world};
 ghost use Rattle.netd_top.specs.Causes.{HasRunCauses};
 ghost use Rattle.netd_top.specs.History.{FailsWhereListed, HasRunHistory};
-ghost use Rattle.netd_top.specs.Run.{DoesForm, DoesRun, TellsText};
+ghost use Rattle.netd_top.specs.Run.{DoesForm, DoesRun, IsShort, TellsText};
 
+use crate::soak::soak;
 use command_words::{Form, Wordless, WordsFault, one_form, read_words, usage};
 use kernel_model::Armed;
 use net_io::{Sink, Source};
@@ -26,7 +27,7 @@ fn tell_usage<W: Sink>(sink: &mut W) -> Status
     }
 }
 
-// Does what a form says.
+// Does what a form says. A script that is made is not too long.
 fn carry_out<S: Source, W: Sink, K: Armed>(
     alloc: Global,
     form: Form,
@@ -34,8 +35,9 @@ fn carry_out<S: Source, W: Sink, K: Armed>(
     sink: &mut W,
     kernel: &mut K,
 ) -> Status
-    requires { MayBegin
+    requires begins { MayBegin
         (world (S.seen source.old) (W.seen sink.old) (K.seen kernel.old)) }
+    requires few { IsShort (view_of form) }
     ensures { DoesForm (view_of form)
         (world (S.seen source.old) (W.seen sink.old) (K.seen kernel.old))
         (world (S.seen source.new) (W.seen sink.new) (K.seen kernel.new))
@@ -47,6 +49,7 @@ fn carry_out<S: Source, W: Sink, K: Armed>(
             session(alloc, source, sink, kernel).status()
         }
         Form::Wordless(Wordless::Check) => Status::of(check(alloc, source, sink)),
+        Form::Soak { seed, count } => soak(alloc, seed, count, sink, kernel),
     }
 }
 

@@ -1,5 +1,6 @@
 -- The entries of a map of stored networks by id, as the list of what they stand for.
 use Rattle.std.proofs.Common.{◌≡◌, ℕ, zero, suc, ◌==◌, ◌∙◌, List, [], ◌∷◌, ◌++◌, map, find, slice_get, Option, Some, None, nat_eq, refl, sym, ap, subst, inl, inr}
+use Rattle.std.specs.List.{AllZip}
 use Rattle.std.specs.Map.{values_of, lookup, set_value}
 use Rattle.std.specs.Option.{option_map, IfSome}
 use Rattle.std.proofs.lemmas.Bool.{cases_Bool}
@@ -164,3 +165,32 @@ pub at-place : (es : List Entry) (place : ℕ) → slice_get (nets_in es) place 
 at-place [] place = refl
 at-place (e ∷ es) zero = refl
 at-place (e ∷ es) (suc place) = at-place es place
+
+abbrev pub IsCopy : Entry → Entry → Type 0
+IsCopy e f = (f.0 ≡ e.0) × (net_of f.1 ≡ net_of e.1)
+
+-- copies of networks, at the same ids
+pub copied-nets : (es fs : List Entry) → AllZip IsCopy es fs → nets_in fs ≡ nets_in es
+copied-nets [] [] copied = refl
+copied-nets [] (f ∷ fs) copied = absurd copied
+copied-nets (e ∷ es) [] copied = absurd copied
+copied-nets (e ∷ es) (f ∷ fs) copied = λ i. copied.0.1 i ∷ copied-nets es fs copied.1 i
+
+copied-ids : (es fs : List Entry) → AllZip IsCopy es fs → StandAtIds es → StandAtIds fs
+copied-ids [] [] copied at = tt
+copied-ids [] (f ∷ fs) copied at = absurd copied
+copied-ids (e ∷ es) [] copied at = absurd copied
+copied-ids (e ∷ es) (f ∷ fs) copied at = (copied.0.0 ∙ at.0 ∙ sym (ap (λ (n : Network). n.id) copied.0.1), copied-ids es fs copied.1 at.1)
+
+pub indexed-copied : (es fs : List Entry) (links links' : List (ℕ × ℕ)) (users users' apps apps' : List OwnedRange) → AreIndexed es links users apps → AllZip IsCopy es fs → links' ≡ links → users' ≡ users → apps' ≡ apps
+    → AreIndexed fs links' users' apps'
+indexed-copied es fs links links' users users' apps apps' old copied same_links same_users same_apps =
+    let nets = copied-nets es fs copied in
+    record {
+      at_ids = copied-ids es fs copied old.at_ids;
+      keyed = ap (λ ns. are_distinct (map (λ (m : Network). m.id) ns)) nets ∙ old.keyed;
+      owners = subst (λ ns. FindOwners links' users' apps' ns) (sym nets)
+          (subst (λ ls. FindOwners ls users' apps' (nets_in es)) (sym same_links)
+          (subst (λ owned. FindOwners links owned apps' (nets_in es)) (sym same_users)
+          (subst (λ owned. FindOwners links users owned (nets_in es)) (sym same_apps) old.owners)));
+    }

@@ -1,7 +1,7 @@
-ghost use Rattle.std.specs.Prelude.{◌≡◌, ◌≤◌, ◌<◌, ◌==◌, false, length, OnOk};
+ghost use Rattle.std.specs.Prelude.{◌≡◌, ◌≤◌, ◌<◌, ◌==◌, false, length, OnOk, IfOk};
 ghost use Rattle.std.specs.List.{list_any};
 ghost use Rattle.fwmark.specs.declared.permission.Permission.{Permission};
-ghost use Rattle.networks.specs.Kinds.{permission_of, ranges_of, is_local, is_physical, is_virtual, is_secure, is_bypass};
+ghost use Rattle.networks.specs.Kinds.{permission_of, ranges_of, is_local, is_physical, is_virtual, is_free, is_secure, is_bypass};
 ghost use Rattle.networks.specs.Network.{has_link, is_keyed_by};
 ghost use Rattle.uid_ranges.specs.Ranges.{AreDisjoint, meets_any};
 ghost use Rattle.uid_ranges.specs.Ranks.{last_rank, has_users, users_meet};
@@ -107,6 +107,16 @@ impl StoredKind {
         matches!(self, StoredKind::Virtual { .. })
     }
 
+    /// Whether it is physical and asks for no permission.
+    pub fn is_free(&self) -> bool
+        ensures { result ≡ is_free (stored.kind_of self.now) }
+    {
+        match self {
+            StoredKind::Physical { permission, .. } => *permission == Permission::Nothing,
+            StoredKind::Local | StoredKind::Virtual { .. } => false,
+        }
+    }
+
     /// Whether it is a VPN that leaves its users no other way.
     pub fn is_secure(&self) -> bool
         ensures { result ≡ is_secure (stored.kind_of self.now) }
@@ -149,6 +159,23 @@ impl StoredKind {
             self.is_secure()
         } else {
             self.is_bypass()
+        }
+    }
+
+    // The same kind, with no room for more.
+    fn copy(&self) -> Result<StoredKind, AllocError>
+        ensures { IfOk result (λ copy. stored.kind_of copy ≡ stored.kind_of self.now) }
+    {
+        match self {
+            StoredKind::Local => Ok(StoredKind::Local),
+            StoredKind::Physical { permission, apps } => Ok(StoredKind::Physical {
+                permission: *permission,
+                apps: apps.copy()?,
+            }),
+            StoredKind::Virtual { secure, users } => Ok(StoredKind::Virtual {
+                secure: *secure,
+                users: users.copy()?,
+            }),
         }
     }
 
@@ -195,6 +222,23 @@ impl StoredKind {
             StoredKind::Physical { permission, .. } => *permission = needed,
             StoredKind::Local | StoredKind::Virtual { .. } => {}
         }
+    }
+}
+
+impl Clone for StoredNetwork {
+    ghost use Rattle.std.specs.Prelude.{◌≡◌};
+    ghost use Rattle.network_store.specs.Stored.{net_of};
+
+    // with no room for more
+    ghost is_clone = { λ one copy. net_of copy ≡ net_of one };
+
+    fn clone(&self) -> Result<StoredNetwork, AllocError> {
+        Ok(StoredNetwork {
+            id: self.id,
+            kind: self.kind.copy()?,
+            interfaces: self.interfaces.clone()?,
+            routes: self.routes.copy()?,
+        })
     }
 }
 

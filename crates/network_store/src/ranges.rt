@@ -1,4 +1,4 @@
-ghost use Rattle.std.specs.Prelude.{◌≡◌, ◌≤◌, ◌+◌, ◌++◌, [], length, OnOk, true, false, filter, not, vec_len, vec_capacity};
+ghost use Rattle.std.specs.Prelude.{◌≡◌, ◌≤◌, ◌+◌, ◌++◌, [], length, OnOk, IfOk, true, false, filter, not, vec_len, vec_capacity};
 ghost use Rattle.uid_ranges.specs.Ranges.{AreDisjoint, has};
 ghost use Rattle.uid_ranges.specs.Ranks.{last_rank, users_meet, all_at, ranked_without, are_ranked};
 
@@ -57,6 +57,15 @@ impl StoredRanges {
         StoredRanges {
             ranges: Vec::new(alloc),
         }
+    }
+
+    /// The same ranges.
+    pub fn copy(&self) -> Result<StoredRanges, AllocError>
+        ensures { IfOk result (λ copy. copy.ranges ≡ self.now.ranges) }
+    {
+        Ok(StoredRanges {
+            ranges: Vec::from_slice(*self.ranges.allocator(), self.ranges.as_slice())?,
+        })
     }
 
     pub fn as_slice(&self) -> &[Ranked]

@@ -1,4 +1,4 @@
-ghost use Rattle.std.specs.Prelude.{◌≡◌, ℕ, ◌≤◌, ◌<◌, ◌+◌, [], None, Some, true, false, cond, filter, not, find, length, slice_get, OnOk, IfSome, IfNone, vec_len, vec_capacity};
+ghost use Rattle.std.specs.Prelude.{◌≡◌, ℕ, ◌≤◌, ◌<◌, ◌+◌, [], None, Some, true, false, cond, filter, not, find, length, slice_get, OnOk, IfOk, IfSome, IfNone, vec_len, vec_capacity};
 ghost use Rattle.std.specs.List.{list_any, prefix_len};
 ghost use Rattle.uid_ranges.specs.Ranges.{AreDisjoint};
 ghost use Rattle.uid_ranges.specs.Ranks.{last_rank, all_at};
@@ -117,6 +117,15 @@ impl RankIndex {
         RankIndex {
             ranges: Vec::new(alloc),
         }
+    }
+
+    // The same ranges of the same networks.
+    pub(crate) fn copy(&self) -> Result<RankIndex, AllocError>
+        ensures { IfOk result (λ copy. copy.ranges ≡ self.now.ranges) }
+    {
+        Ok(RankIndex {
+            ranges: Vec::from_slice(*self.ranges.allocator(), self.ranges.as_slice())?,
+        })
     }
 
     // The network that has the range of this rank which holds the UID.

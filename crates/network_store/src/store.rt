@@ -168,6 +168,18 @@ impl StoredNetworks {
         })
     }
 
+    /// The same networks.
+    pub fn copy(&self) -> Result<StoredNetworks, AllocError>
+        ensures { IfOk result (λ copy. store.nets_of copy ≡ store.nets_of self.now) }
+    {
+        Ok(StoredNetworks {
+            by_id: self.by_id.clone()?,
+            by_link: self.by_link.clone()?,
+            users: self.users.copy()?,
+            apps: self.apps.copy()?,
+        })
+    }
+
     /// How many networks there are.
     pub fn len(&self) -> usize
         ensures count { result ≡ length (store.nets_of self.now) }

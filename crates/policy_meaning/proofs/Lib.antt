@@ -8,6 +8,7 @@ mod Levels
 mod LevelsInTurn
 mod Loopback
 mod Meaning
+mod OneHolder
 pub mod Promised
 mod RankLevels
 mod Routing

@@ -1,11 +1,14 @@
 // What networks say of a packet.
 ghost use Rattle.std.specs.Prelude.{◌≡◌, map};
-ghost use Rattle.policy_meaning.specs.Asking.{is_at, routes_at};
+ghost use Rattle.policy_meaning.specs.Asking.{fitting, is_at, routes_at};
 ghost use Rattle.policy_meaning.specs.Policy.{first_given, asks_routes, asks_link, asks};
+ghost use Rattle.network_store.specs.Stored as stored;
 ghost use Rattle.prefixes.specs.Best.{best};
 
-use networks::{Kind, LinkRoute, Network};
+use network_store::{StoredKind, StoredNetwork};
+use networks::LinkRoute;
 use prefixes::{Route, longer_of};
+use route_store::RouteStore;
 use rule_match::{Packet, Verdict};
 
 fn is_at(route: &LinkRoute, link: Option<u16>) -> bool
@@ -17,20 +20,29 @@ fn is_at(route: &LinkRoute, link: Option<u16>) -> bool
     }
 }
 
-fn best_at(routes: &[LinkRoute], link: Option<u16>, packet: &Packet) -> Option<Route>
-    ensures { result ≡ best (routes_at link routes.now) packet.now.dest packet.now.outgoing }
+// The route, where it belongs to the interface and fits the packet.
+fn fitting(route: &LinkRoute, link: Option<u16>, packet: &Packet) -> Option<Route>
+    ensures { result ≡ fitting link packet.now.dest packet.now.outgoing route.now }
+{
+    if is_at(route, link) && route.route.fits(packet.dest(), packet.outgoing()) {
+        Some(route.route)
+    } else {
+        None
+    }
+}
+
+fn best_at(routes: &RouteStore, link: Option<u16>, packet: &Packet) -> Option<Route>
+    ensures { result ≡ best (routes_at link routes.now.routes) packet.now.dest packet.now.outgoing }
 {
     let mut found = None;
-    for route in routes {
-        if is_at(route, link) && route.route.fits(packet.dest(), packet.outgoing()) {
-            found = longer_of(found, Some(route.route));
-        }
+    for route in routes.iter() {
+        found = longer_of(found, fitting(&route, link, packet));
     }
     found
 }
 
-fn ask_routes(routes: &[LinkRoute], link: Option<u16>, packet: &Packet) -> Option<Verdict>
-    ensures { result ≡ asks_routes (routes_at link routes.now) packet.now }
+fn ask_routes(routes: &RouteStore, link: Option<u16>, packet: &Packet) -> Option<Verdict>
+    ensures { result ≡ asks_routes (routes_at link routes.now.routes) packet.now }
 {
     let route = best_at(routes, link, packet)?;
     let answer = route.out.answer()?;
@@ -38,15 +50,15 @@ fn ask_routes(routes: &[LinkRoute], link: Option<u16>, packet: &Packet) -> Optio
 }
 
 /// What the network says of the packet by its routes at this interface.
-pub fn ask_link(network: &Network, link: u16, packet: &Packet) -> Option<Verdict>
-    ensures { result ≡ asks_link network.now link packet.now }
+pub fn ask_link(network: &StoredNetwork, link: u16, packet: &Packet) -> Option<Verdict>
+    ensures { result ≡ asks_link (stored.net_of network.now) link packet.now }
 {
-    ask_routes(network.routes.as_slice(), Some(link), packet)
+    ask_routes(&network.routes, Some(link), packet)
 }
 
-fn ask_interfaces(network: &Network, packet: &Packet) -> Option<Verdict>
-    ensures { result ≡ first_given (λ link. asks_link network.now link packet.now)
-        network.now.interfaces }
+fn ask_interfaces(network: &StoredNetwork, packet: &Packet) -> Option<Verdict>
+    ensures { result ≡ first_given (λ link. asks_link (stored.net_of network.now) link packet.now)
+        network.now.interfaces.items }
 {
     for link in network.interfaces.as_slice() {
         let answer = ask_link(network, *link, packet);
@@ -58,11 +70,11 @@ fn ask_interfaces(network: &Network, packet: &Packet) -> Option<Verdict>
 }
 
 /// What the network says of the packet.
-pub fn ask(network: &Network, packet: &Packet) -> Option<Verdict>
-    ensures { result ≡ asks network.now packet.now }
+pub fn ask(network: &StoredNetwork, packet: &Packet) -> Option<Verdict>
+    ensures { result ≡ asks (stored.net_of network.now) packet.now }
 {
     match &network.kind {
-        Kind::Local => ask_routes(network.routes.as_slice(), None, packet),
-        Kind::Physical { .. } | Kind::Virtual { .. } => ask_interfaces(network, packet),
+        StoredKind::Local => ask_routes(&network.routes, None, packet),
+        StoredKind::Physical { .. } | StoredKind::Virtual { .. } => ask_interfaces(network, packet),
     }
 }

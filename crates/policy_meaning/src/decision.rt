@@ -28,6 +28,7 @@ ghost use Rattle.policy_meaning.specs.Policy.{
   policy,
 };
 ghost use Rattle.rule_match.specs.Packet.{is_made};
+ghost use Rattle.uid_ranges.specs.Ranges.{any_holds};
 
 use crate::asking::ask_link;
 use crate::holders::{Holder, ask_holders};
@@ -39,6 +40,7 @@ use crate::rights::{has_system, is_explicit, is_protected, is_root, names_none};
 use policy_state::{State, TetherPair};
 use prefixes::Addr;
 use rule_match::{LOOPBACK, Packet, Verdict};
+use uid_ranges::UidRange;
 
 fn is_loopback(dest: Addr) -> bool
     ensures { result ≡ is_loopback dest }
@@ -64,10 +66,16 @@ fn is_to_device(packet: &Packet) -> bool
     is_loopback(packet.dest()) && may_use_lo(packet.outgoing())
 }
 
+fn any_holds(ranges: &[UidRange], packet: &Packet) -> bool
+    ensures { result ≡ any_holds ranges.now packet.now.uid.number }
+{
+    ranges.iter().any(|range| range.holds(packet.uid()))
+}
+
 fn is_locked_down(state: &State, packet: &Packet) -> bool
     ensures { result ≡ is_locked_down state.now packet.now }
 {
-    !is_protected(packet) && state.lockdown().holds(packet.uid())
+    !is_protected(packet) && any_holds(state.lockdown(), packet)
 }
 
 fn root_interface(state: &State, packet: &Packet) -> Option<Verdict>

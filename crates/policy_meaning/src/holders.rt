@@ -1,6 +1,9 @@
 // The networks that hold a packet's user, by rising rank.
 ghost use Rattle.std.specs.Prelude.{◌≡◌, ◌&&◌};
-ghost use Rattle.policy_meaning.specs.Asking.{is_meant};
+ghost use Rattle.std.specs.Option.{option_map};
+ghost use Rattle.network_store.specs.Stored as stored;
+ghost use Rattle.network_store.specs.Store.{nets_of};
+ghost use Rattle.policy_meaning.specs.Asking.{holder_at, is_meant};
 ghost use Rattle.policy_meaning.specs.Policy.{
   only_if,
   first_given,
@@ -12,7 +15,7 @@ ghost use Rattle.policy_meaning.specs.Policy.{
 
 use crate::asking::ask;
 use crate::rights::is_usable;
-use networks::{Kind, Network};
+use network_store::{StoredKind, StoredNetwork, StoredNetworks};
 use policy_state::State;
 use rule_match::{Packet, Verdict};
 
@@ -30,8 +33,8 @@ pub enum Holder {
 }
 
 impl Holder {
-    fn is_meant(self, packet: &Packet, kind: &Kind) -> bool
-        ensures { result ≡ is_meant self packet.now kind.now }
+    fn is_meant(self, packet: &Packet, kind: &StoredKind) -> bool
+        ensures { result ≡ is_meant self packet.now (stored.kind_of kind.now) }
     {
         match self {
             Holder::Secure => kind.is_secure(),
@@ -39,24 +42,22 @@ impl Holder {
             Holder::Preferred => is_usable(packet, kind),
         }
     }
-}
 
-fn holds_at(network: &Network, packet: &Packet, rank: u8) -> bool
-    ensures { result ≡ holds_at packet.now.uid.number rank network.now }
-{
-    network.kind.ranges().iter().any(|range| range.rank == rank && range.users.holds(packet.uid()))
-}
-
-// What the network says, where it holds the packet's user at this rank.
-fn ask_holder(holder: Holder, network: &Network, packet: &Packet, rank: u8) -> Option<Verdict>
-    ensures { result ≡ only_if (asks network.now packet.now)
-        (is_meant holder packet.now network.now.kind
-        && holds_at packet.now.uid.number rank network.now) }
-{
-    if holder.is_meant(packet, &network.kind) && holds_at(network, packet, rank) {
-        ask(network, packet)
-    } else {
-        None
+    // The network that holds the packet's user at this rank, or that the user's app prefers at it.
+    fn at_rank<'a>(
+        self,
+        networks: &'a StoredNetworks,
+        packet: &Packet,
+        rank: u8,
+    ) -> Option<&'a StoredNetwork>
+        ensures { option_map (λ n. stored.net_of n.now) result ≡
+            holder_at self packet.now.uid.number rank (nets_of networks.now) }
+    {
+        match self {
+            Holder::Secure => networks.holder_at(true, rank, packet.uid()),
+            Holder::Bypass => networks.holder_at(false, rank, packet.uid()),
+            Holder::Preferred => networks.preferred_at(rank, packet.uid()),
+        }
     }
 }
 
@@ -65,16 +66,12 @@ fn ask_at_rank(holder: Holder, state: &State, packet: &Packet, rank: u8) -> Opti
         (is_meant holder packet.now n.kind && holds_at packet.now.uid.number rank n))
         state.now.networks }
 {
-    let networks = state.networks();
-    for place in 0..networks.len() {
-        if let Some(network) = networks.at(place) {
-            let answer = ask_holder(holder, network, packet, rank);
-            if answer.is_some() {
-                return answer;
-            }
-        }
+    let network = holder.at_rank(state.networks(), packet, rank)?;
+    if holder.is_meant(packet, &network.kind) {
+        ask(network, packet)
+    } else {
+        None
     }
-    None
 }
 
 /// What the first of these networks says that says something.

@@ -1,6 +1,7 @@
 // The networks that a packet names or is bound to, and the two that stand by.
 ghost use Rattle.std.specs.Prelude.{◌≡◌};
-ghost use Rattle.std.specs.Option.{option_copied};
+ghost use Rattle.std.specs.Option.{option_map};
+ghost use Rattle.network_store.specs.Stored as stored;
 ghost use Rattle.fwmark.specs.Mark.{net_of};
 ghost use Rattle.networks.specs.Kinds.{is_free, is_secure, is_bypass};
 ghost use Rattle.networks.specs.Lists.{find_id};
@@ -20,13 +21,14 @@ ghost use Rattle.policy_state.specs.Rows.{default_of};
 use crate::asking::{ask, ask_link};
 use crate::rights::{may_bind, may_choose, may_reach, may_use};
 use fwmark::Mark;
-use networks::{LOCAL_ID, Network};
+use network_store::StoredNetwork;
+use networks::LOCAL_ID;
 use policy_state::State;
 use rule_match::{Packet, Verdict};
 
 // The network that the mark names.
-fn named<'a>(state: &'a State, packet: &Packet) -> Option<&'a Network>
-    ensures { option_copied result ≡ find_id (net_of packet.now.mark) state.now.networks }
+fn named<'a>(state: &'a State, packet: &Packet) -> Option<&'a StoredNetwork>
+    ensures { option_map (λ n. stored.net_of n.now) result ≡ find_id (net_of packet.now.mark) state.now.networks }
 {
     state.networks().get(Mark::of_bits(packet.mark()).net)
 }
@@ -42,8 +44,8 @@ pub fn names_virtual(state: &State, packet: &Packet) -> bool
 }
 
 // The default network.
-fn default_network(state: &State) -> Option<&Network>
-    ensures { option_copied result ≡ default_of state.now }
+fn default_network(state: &State) -> Option<&StoredNetwork>
+    ensures { option_map (λ n. stored.net_of n.now) result ≡ default_of state.now }
 {
     let id = state.default_net()?;
     state.networks().get(id)

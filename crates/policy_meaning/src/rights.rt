@@ -1,6 +1,7 @@
 // What a packet's mark and its user say, and which networks it may use by them.
 ghost use Rattle.std.specs.Prelude.{◌≡◌, ◌==◌};
 ghost use Rattle.fwmark.specs.Mark.{net_of, is_explicit, is_protected, has_system};
+ghost use Rattle.network_store.specs.Stored as stored;
 ghost use Rattle.policy_meaning.specs.Policy.{
   may_use,
   is_usable,
@@ -8,9 +9,10 @@ ghost use Rattle.policy_meaning.specs.Policy.{
   may_bind,
   may_choose,
 };
+ghost use Rattle.uid_ranges.specs.Ranks.{holds_user};
 
 use fwmark::{Mark, Permission, suffices};
-use networks::{Kind, Network};
+use network_store::{StoredKind, StoredNetwork, StoredRanges};
 use rule_match::Packet;
 
 /// Whether the mark selects its network explicitly.
@@ -47,53 +49,63 @@ pub fn is_root(packet: &Packet) -> bool
 }
 
 /// Whether the mark suffices for the permission that the network asks for.
-pub fn may_use(packet: &Packet, kind: &Kind) -> bool
-    ensures { result ≡ may_use packet.now kind.now }
+pub fn may_use(packet: &Packet, kind: &StoredKind) -> bool
+    ensures { result ≡ may_use packet.now (stored.kind_of kind.now) }
 {
     suffices(Mark::of_bits(packet.mark()).permission, kind.permission())
 }
 
+// Whether the packet's user is one of these.
+fn holds(users: &StoredRanges, packet: &Packet) -> bool
+    ensures { result ≡ holds_user users.now.ranges packet.now.uid.number }
+{
+    users
+        .as_slice()
+        .iter()
+        .any(|range| range.users.holds(packet.uid()))
+}
+
 /// Whether the network is physical, and the mark suffices for its permission.
-pub fn is_usable(packet: &Packet, kind: &Kind) -> bool
-    ensures { result ≡ is_usable packet.now kind.now }
+pub fn is_usable(packet: &Packet, kind: &StoredKind) -> bool
+    ensures { result ≡ is_usable packet.now (stored.kind_of kind.now) }
 {
     match kind {
-        Kind::Physical { .. } => may_use(packet, kind),
-        Kind::Local | Kind::Virtual { .. } => false,
+        StoredKind::Physical { .. } => may_use(packet, kind),
+        StoredKind::Local | StoredKind::Virtual { .. } => false,
     }
 }
 
 /// Whether root may reach the network's interfaces even under lockdown.
-pub fn may_reach(packet: &Packet, network: &Network) -> bool
-    ensures { result ≡ may_reach packet.now network.now }
+pub fn may_reach(packet: &Packet, network: &StoredNetwork) -> bool
+    ensures { result ≡ may_reach packet.now (stored.net_of network.now) }
 {
     match &network.kind {
-        Kind::Local => true,
-        Kind::Physical { .. } => may_use(packet, &network.kind),
-        Kind::Virtual { .. } => false,
+        StoredKind::Local => true,
+        StoredKind::Physical { .. } => may_use(packet, &network.kind),
+        StoredKind::Virtual { .. } => false,
     }
 }
 
 /// Whether the packet may go by the network's interface to which it is bound.
-pub fn may_bind(packet: &Packet, network: &Network) -> bool
-    ensures { result ≡ may_bind packet.now network.now }
+pub fn may_bind(packet: &Packet, network: &StoredNetwork) -> bool
+    ensures { result ≡ may_bind packet.now (stored.net_of network.now) }
 {
     match &network.kind {
-        Kind::Local => true,
-        Kind::Physical { .. } => may_use(packet, &network.kind),
-        Kind::Virtual { users, .. } => users.holds(packet.uid()),
+        StoredKind::Local => true,
+        StoredKind::Physical { .. } => may_use(packet, &network.kind),
+        StoredKind::Virtual { users, .. } => holds(users, packet),
     }
 }
 
 /// Whether the packet may choose the network.
-pub fn may_choose(packet: &Packet, network: &Network) -> bool
-    ensures { result ≡ may_choose packet.now network.now }
+pub fn may_choose(packet: &Packet, network: &StoredNetwork) -> bool
+    ensures { result ≡ may_choose packet.now (stored.net_of network.now) }
 {
     match &network.kind {
-        Kind::Local => true,
-        Kind::Physical { .. } => may_use(packet, &network.kind),
-        Kind::Virtual { users, .. } => {
-            users.holds(packet.uid()) || is_root(packet) && has_system(packet)
+        StoredKind::Local => true,
+        StoredKind::Physical { .. } => may_use(packet, &network.kind),
+        StoredKind::Virtual { users, .. } => {
+            holds(users, packet) || is_root(packet) && has_system(packet)
         }
     }
 }

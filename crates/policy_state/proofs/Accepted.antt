@@ -12,7 +12,7 @@ use Rattle.prefixes.specs.declared.route.Route.{Route}
 use Rattle.net_names.specs.declared.code.Code.{Code}
 use Rattle.policy_state.specs.Good.{most_interfaces}
 use Rattle.policy_state.specs.View.{StateView, link_named}
-use Rattle.policy_state.specs.Step.{Reason, first_that_holds, of_link, changed_by_link, is_in, is_full, is_local_net, routes_at, table_routes, table_routes_of, is_physical, is_net_unknown}
+use Rattle.policy_state.specs.Step.{Reason, first_that_holds, of_link, of_links, of_net, changed_by_link, changed_by_links, is_in, is_full, is_local_net, routes_at, table_routes, table_routes_of, is_physical, is_net_unknown}
 
 pub none_holds : (rs : List Reason) → first_that_holds rs ≡ None → AllByRecursion (λ r. r.holds ≡ false) rs
 none_holds [] none = tt
@@ -52,15 +52,43 @@ of_link-at s name test link is = ap (λ (o : Option ℕ). elim o as (λ _. Bool)
 pub changed_by_link-at : (s : StateView) (name : List ℕ) (change : ℕ → StateView → StateView) (link : ℕ) → link_named s name ≡ Some link → changed_by_link s name change ≡ change link s
 changed_by_link-at s name change link is = ap (λ (o : Option ℕ). elim o as (λ _. StateView) [ Some i ↦ change i s | None ↦ s ]) is
 
+pub changed_by_link-none : (s : StateView) (name : List ℕ) (change : ℕ → StateView → StateView) → link_named s name ≡ None → changed_by_link s name change ≡ s
+changed_by_link-none s name change is = ap (λ (o : Option ℕ). elim o as (λ _. StateView) [ Some i ↦ change i s | None ↦ s ]) is
+
+-- the links of two names
+pub record BothNamed (s : StateView) (input out : List ℕ) : Type 0 where
+  pub came : ℕ
+  pub goes : ℕ
+  pub input_named : link_named s input ≡ Some came
+  pub out_named : link_named s out ≡ Some goes
+
+pub of_links-at : (s : StateView) (input out : List ℕ) (test : ℕ → ℕ → Bool) (at : BothNamed s input out) → of_links s input out test ≡ test at.came at.goes
+of_links-at s input out test at =
+    of_link-at s input (λ came. of_link s out (λ goes. test came goes)) at.came at.input_named ∙ of_link-at s out (λ goes. test at.came goes) at.goes at.out_named
+
+pub changed_by_links-at : (s : StateView) (input out : List ℕ) (change : ℕ → ℕ → StateView → StateView) (at : BothNamed s input out) → changed_by_links s input out change ≡ change at.came at.goes s
+changed_by_links-at s input out change at =
+    ap (λ (o : Option ℕ). elim o as (λ _. StateView) [ Some came ↦ elim (link_named s out) as (λ _. StateView) [ Some goes ↦ change came goes s | None ↦ s ] | None ↦ s ]) at.input_named
+    ∙ ap (λ (o : Option ℕ). elim o as (λ _. StateView) [ Some goes ↦ change at.came goes s | None ↦ s ]) at.out_named
+
+pub both_named : (s : StateView) (input out : List ℕ) (test : ℕ → ℕ → Bool) → of_links s input out test ≡ true → BothNamed s input out
+both_named s input out test h =
+    let one = link_there s input (λ came. of_link s out (λ goes. test came goes)) h in
+    let other = link_there s out (λ goes. test one.0 goes) one.1.1 in
+    record { came = one.0; goes = other.0; input_named = one.1.0; out_named = other.1.0 }
+
 module _ (s : StateView) (net : ℕ) (n : Network) (found : find_id net s.networks ≡ Some n) where
+  pub of_net-at : (test : Network → Bool) → of_net s net test ≡ test n
+  of_net-at test = ap (λ (o : Option Network). elim o as (λ _. Bool) [ Some m ↦ test m | None ↦ false ]) found
+
   pub is_in-at : (link : ℕ) → is_in s net link ≡ has_link n link
-  is_in-at link = ap (λ (o : Option Network). elim o as (λ _. Bool) [ Some m ↦ has_link m link | None ↦ false ]) found
+  is_in-at link = of_net-at (λ m. has_link m link)
 
   pub is_full-at : is_full s net ≡ nat_le most_interfaces (length n.interfaces)
-  is_full-at = ap (λ (o : Option Network). elim o as (λ _. Bool) [ Some m ↦ nat_le most_interfaces (length m.interfaces) | None ↦ false ]) found
+  is_full-at = of_net-at (λ m. nat_le most_interfaces (length m.interfaces))
 
   pub is_local_net-at : is_local_net s net ≡ kinds.is_local n.kind
-  is_local_net-at = ap (λ (o : Option Network). elim o as (λ _. Bool) [ Some m ↦ kinds.is_local m.kind | None ↦ false ]) found
+  is_local_net-at = of_net-at (λ m. kinds.is_local m.kind)
 
   pub table_routes-at : (link : ℕ) → table_routes s net link ≡ table_routes_of n link
   table_routes-at link = ap (λ (o : Option Network). elim o as (λ _. List Route) [ Some m ↦ table_routes_of m link | None ↦ [] ]) found
@@ -69,7 +97,7 @@ module _ (s : StateView) (net : ℕ) (n : Network) (found : find_id net s.networ
   routes_at-at link = ap (λ (o : Option Network). elim o as (λ _. List Route) [ Some m ↦ routes_by link m.routes | None ↦ [] ]) found
 
 pub is_physical-at : (s : StateView) (net : ℕ) (n : Network) → find_id net s.networks ≡ Some n → is_physical s net ≡ kinds.is_physical n.kind
-is_physical-at s net n found = ap (λ (o : Option Network). elim o as (λ _. Bool) [ Some m ↦ kinds.is_physical m.kind | None ↦ false ]) found
+is_physical-at s net n found = of_net-at s net n found (λ m. kinds.is_physical m.kind)
 
 -- what the reasons about a route's network and link leave
 pub record Routed (s : StateView) (net : ℕ) (name : List ℕ) : Type 0 where

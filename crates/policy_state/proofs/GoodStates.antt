@@ -1,16 +1,17 @@
 -- What the tests of a good state say of what stands in its lists.
 use Rattle.std.proofs.Common.{◌≡◌, ◌∙◌, ◌==◌, ◌≤◌, ◌<◌, ℕ, Bool, true, false, Option, Some, None, List, [], ◌∷◌, refl, sym, ap, subst, inl, inr, arith}
-use Rattle.std.specs.Prelude.{◌⊎◌, ◌&&◌, ◌||◌, not, nat_le}
+use Rattle.std.specs.Prelude.{◌⊎◌, ◌&&◌, not, nat_le}
 use Rattle.std.specs.List.{list_all, AllByRecursion}
-use Rattle.std.proofs.lemmas.Bool.{false≢true, and_parts, and_from, or_parts, eqb-true, eq-eqb, leb-true, le-leb}
+use Rattle.std.proofs.lemmas.Bool.{both_ways, false≢true, and_parts, and_from, or_parts, eqb-true, eq-eqb, leb-true, le-leb}
 use Rattle.prefixes.specs.Route.{link_of}
 use Rattle.uid_ranges.specs.Range.{holds, meets}
 use Rattle.uid_ranges.specs.declared.range.UidRange.{UidRange}
 use Rattle.uid_ranges.proofs.Shared.{meets_from_shared}
 use Rattle.policy_state.specs.View.{Ranked, LinkRoute, Network, TetherPair, StateView}
-use Rattle.policy_state.specs.Rows.{OfDefault, picks, ranges_of, class_of, links_of, default_of}
+use Rattle.policy_state.specs.Rows.{OfDefault, picks, ranges_of, links_of, default_of}
+use Rattle.policy_state.proofs.Differing.{Differ, differ-parts, differ-turned}
 use Rattle.policy_state.proofs.Owners.{Has, Once, IsOwned, AreOnce, HasLinks, IsWhole, IsOutput, HasDistinctNets, owners_of, owns, Passing, of_any, find-has, link-has}
-use Rattle.policy_state.specs.Good.{is_local_network, differ, are_disjoint, ranks_differ, nets_differ, pairs_differ, is_by_link, is_pair, is_index, is_output, LeadsOut, IsNetwork, StartsLocal, IsWellFormed}
+use Rattle.policy_state.specs.Good.{is_local_network, differ, are_disjoint, nets_differ, pairs_differ, is_by_link, is_pair, is_index, is_output, LeadsOut, IsNetwork, StartsLocal, IsWellFormed}
 use Rattle.uid_ranges.specs.Ranks.{are_apart}
 use Rattle.uid_ranges.specs.Ranges.{meets_any, self_meets, AreDisjoint}
 use Rattle.networks.specs.Network.{has_link}
@@ -46,31 +47,6 @@ never-differs n h = both-sides (n == n) h (eq-eqb n n refl)
 
 meets-self : (r : UidRange) → meets r r ≡ true
 meets-self r = and_from _ _ (le-leb r.first.number r.last.number r.ordered) (le-leb r.first.number r.last.number r.ordered)
-
--- what tells two networks apart
-record Apart (m n : Network) : Type 0 where
-  ids : m.id ≡ n.id → ⊥
-  links : (link : ℕ) → Has m.interfaces link → Has n.interfaces link → ⊥
-  users : (r q : Ranked) (uid : ℕ) → Has (ranges_of m.kind) r → Has (ranges_of n.kind) q → class_of m.kind ≡ class_of n.kind → r.rank ≡ q.rank → holds r.users uid ≡ true → holds q.users uid ≡ true → ⊥
-
-apart : (m n : Network) → nets_differ m n ≡ true → Apart m n
-apart m n h =
-    let one = and_parts (differ m.id n.id) (list_all (λ i. list_all (differ i) n.interfaces) m.interfaces
-    && (not (class_of m.kind == class_of n.kind) || list_all (λ r. list_all (ranks_differ r) (ranges_of n.kind)) (ranges_of m.kind))) h in
-    let two = and_parts (list_all (λ i. list_all (differ i) n.interfaces) m.interfaces)
-    (not (class_of m.kind == class_of n.kind) || list_all (λ r. list_all (ranks_differ r) (ranges_of n.kind)) (ranges_of m.kind)) one.1 in
-    record {
-      ids = λ e. both-sides (m.id == n.id) one.0 (eq-eqb m.id n.id e);
-      links = λ link in_m in_n. never-differs link (all-has (differ link) n.interfaces link (all-has (λ i. list_all (differ i) n.interfaces) m.interfaces link two.0 in_m) in_n);
-      users = λ r q uid in_r in_q kinds ranks one other.
-          let all : list_all (λ r. list_all (ranks_differ r) (ranges_of n.kind)) (ranges_of m.kind) ≡ true = same-kind (class_of m.kind == class_of n.kind) (list_all (λ r. list_all (ranks_differ r) (ranges_of n.kind)) (ranges_of m.kind)) two.1 (eq-eqb (class_of m.kind) (class_of n.kind) kinds) in
-          both-sides ((r.rank == q.rank) && meets r.users q.users) (all-has (ranks_differ r) (ranges_of n.kind) q (all-has (λ r. list_all (ranks_differ r) (ranges_of n.kind)) (ranges_of m.kind) r all in_r) in_q)
-          (and_from _ _ (eq-eqb r.rank q.rank ranks) (meets_from_shared r.users q.users uid one other));
-    }
-  where
-    same-kind : (a b : Bool) → (not a || b) ≡ true → a ≡ true → b ≡ true
-    same-kind true b h e = h
-    same-kind false b h e = absurd (false≢true e)
 
 -- what holds of each member of a list
 pub each-has : {A : Type 0} (P : A → Type 0) (xs : List A) (x : A) → AllByRecursion P xs → Has xs x → P x
@@ -117,10 +93,10 @@ module _ (s : StateView) (good : IsWellFormed s) where
   net n there = net-is n (each-has IsNetwork s.networks n good.networks.each there)
 
   -- networks that share something that tells them are the same
-  same-net : (m n : Network) → Has s.networks m → Has s.networks n → (Apart m n → ⊥) → (Apart n m → ⊥) → m ≡ n
-  same-net m n in_m in_n one other = elim (pairs-tell nets_differ s.networks m n good.networks.differ in_m in_n) [
+  same-net : (m n : Network) → Has s.networks m → Has s.networks n → (Differ m n → ⊥) → m ≡ n
+  same-net m n in_m in_n shared = elim (pairs-tell nets_differ s.networks m n good.networks.differ in_m in_n) [
     | inl e ↦ e
-    | inr f ↦ elim f [ inl g ↦ absurd (one (apart m n g)) | inr g ↦ absurd (other (apart n m g)) ]
+    | inr f ↦ elim f [ inl g ↦ absurd (shared (differ-parts m n g)) | inr g ↦ absurd (shared (differ-turned n m (differ-parts n m g))) ]
   ]
 
   ranges-tell : (n : Network) (r q : Ranked) (uid : ℕ) → Has s.networks n → Has (ranges_of n.kind) r → Has (ranges_of n.kind) q → holds r.users uid ≡ true → holds q.users uid ≡ true → r ≡ q
@@ -135,10 +111,10 @@ module _ (s : StateView) (good : IsWellFormed s) where
   distinct : HasDistinctNets s
   distinct = record {
     fits = λ n there. (net n there).fits;
-    ids = λ m n in_m in_n e. same-net m n in_m in_n (λ a. a.ids e) (λ a. a.ids (sym e));
-    links = λ m n link in_m in_n has_m has_n. same-net m n in_m in_n (λ a. a.links link has_m has_n) (λ a. a.links link has_n has_m);
-    users = λ m n r q uid in_m in_n in_r in_q kinds ranks one other.
-        same-net m n in_m in_n (λ a. a.users r q uid in_r in_q kinds ranks one other) (λ a. a.users q r uid in_q in_r (sym kinds) (sym ranks) other one);
+    ids = λ m n in_m in_n e. same-net m n in_m in_n (λ d. both_ways (m.id == n.id) d.ids (eq-eqb m.id n.id e));
+    links = λ m n link in_m in_n has_m has_n. same-net m n in_m in_n (λ d. d.links link has_m has_n);
+    users = λ m n r q uid in_m in_n in_r in_q kinds ranks one other. same-net m n in_m in_n (λ d.
+        both-sides ((r.rank == q.rank) && meets r.users q.users) (d.ranks kinds r q in_r in_q) (and_from _ _ (eq-eqb r.rank q.rank ranks) (meets_from_shared r.users q.users uid one other)));
     ranks = λ n r there in_r. (net n there).ranks r in_r;
     disjoint = ranges-tell;
   }
@@ -158,7 +134,7 @@ module _ (s : StateView) (good : IsWellFormed s) where
 
   pub are-once : AreOnce s
   are-once = record {
-    networks = once-of nets_differ s.networks (λ n h. let a : Apart n n = apart n n h in a.ids refl) good.networks.differ;
+    networks = once-of nets_differ s.networks (λ n h. both_ways (n.id == n.id) (differ-parts n n h).ids (eq-eqb n.id n.id refl)) good.networks.differ;
     interfaces = λ n there. (net n there).once;
     ranges = λ n there. once-of are_apart (ranges_of n.kind) (λ r h. both-sides (meets r.users r.users) h (meets-self r.users)) (net n there).disjoint;
     default = by (default_of s) refl;

@@ -1,48 +1,51 @@
 -- A command that is accepted leads from a good state to a good one.
-use Rattle.std.proofs.Common.{◌≡◌, ◌∙◌, ◌≤◌, ◌<◌, ◌==◌, ◌&&◌, ◌||◌, ℕ, Bool, true, false, not, Option, Some, None, List, [], ◌∷◌, ◌++◌, length, map, filter, refl, sym, ap, subst, inl, inr, arith, nat_le, is_some, is_none}
-use Rattle.std.specs.Prelude.{◌⊎◌, find}
+use Rattle.std.proofs.Common.{◌≡◌, ◌∙◌, ◌≤◌, ◌<◌, ◌==◌, ◌&&◌, ◌||◌, ◌+◌, ℕ, Bool, true, false, not, Option, Some, None, List, [], ◌∷◌, ◌++◌, length, filter, refl, sym, ap, subst, inl, inr, arith, nat_le, is_some}
+use Rattle.std.specs.Prelude.{nat_lt}
 use Rattle.std.specs.List.{list_all}
 use Rattle.std.specs.Str.{bytes_eq}
-use Rattle.std.proofs.lemmas.Bool.{cases_Bool, false≢true, and_parts, and_from, or_left, or_right, or_parts, both_ways, ltb-false, leb-false, le-leb, not-false, not-true, not_from_false, eqb-true, eq-eqb, false_from_ne_true}
+use Rattle.std.proofs.lemmas.Bool.{cases_Bool, false≢true, and_from, or_left, or_parts, both_ways, ltb-false, leb-false, le-leb, not-false, not_from_false, eqb-true, eq-eqb, false_from_ne_true}
 use Rattle.std.proofs.lemmas.List.{length-append, length-map}
 use Rattle.std.proofs.lemmas.List.Folds.{list_any-append, list_all-append}
-use Rattle.std.proofs.lemmas.Option.{none-some}
-use Rattle.list_lemmas.proofs.Alls.{all-push, all-weaker}
 use Rattle.list_lemmas.proofs.Anys.{length-filter-le}
-use Rattle.list_lemmas.proofs.Numbers.{eqb-turned}
 use Rattle.list_lemmas.proofs.Options.{some_there}
-use Rattle.list_lemmas.proofs.Pairs.{list_all-filter, pairwise-append}
+use Rattle.list_lemmas.proofs.Pairs.{list_all-filter}
 use Rattle.fib_table.specs.Table.{has_key}
 use Rattle.fwmark.specs.declared.permission.Permission.{Permission}
+use Rattle.net_names.specs.declared.code.Code.TheVariants as code
 use Rattle.networks.specs.Kinds.{class_of, ranges_of, is_local}
+use Rattle.networks.specs.Kinds as kinds
 use Rattle.networks.specs.Lists.{find_id, find_link}
 use Rattle.networks.specs.Network.{has_link, routes_by, is_keyed_by}
 use Rattle.networks.specs.declared.kind.Kind.TheVariants as kind
 use Rattle.prefixes.specs.declared.prefix.Prefix.{Prefix}
 use Rattle.prefixes.specs.declared.route.Route.{Route}
-use Rattle.uid_ranges.specs.Ranges.{has, without}
+use Rattle.rule_match.specs.Packet.{lo}
+use Rattle.uid_ranges.specs.Ranges.{AreDisjoint, has, self_meets, without}
+use Rattle.uid_ranges.specs.Ranks.{last_rank, users_meet}
+use Rattle.uid_ranges.specs.declared.range.Uid.{Uid}
 use Rattle.uid_ranges.specs.declared.range.UidRange.{UidRange}
 use Rattle.uid_ranges.proofs.Disjoint.{AreDisjoint-append, AreDisjoint-filter}
+use Rattle.uid_ranges.proofs.RankedLists.{are_ranked-more}
 use Rattle.commands.specs.Commands.{FitsTypes}
 use Rattle.commands.specs.declared.command.Command.{Command}
 use Rattle.commands.specs.declared.command.Command.TheVariants as command
 use Rattle.commands.specs.declared.command.Way.{Way}
-use Rattle.commands.specs.declared.command.Way.TheVariants as way
-use Rattle.policy_state.specs.Good.{most_links, most_networks, most_interfaces, most_routes, most_rules, differ, nets_differ, is_local_network, is_by_link, is_index, is_output, is_pair, is_default_there, IsNetwork, StartsLocal, IsWellFormed, IsGood, AreLinks, ranks_differ, most_lockdown_ranges}
 use Rattle.policy_state.specs.Counts.{rule_count}
-use Rattle.networks.specs.Kinds as kinds
-use Rattle.net_names.specs.declared.code.Code.TheVariants as code
-use Rattle.uid_ranges.specs.Ranges.{AreDisjoint}
-use Rattle.uid_ranges.specs.Ranks.{are_ranked}
-use Rattle.policy_state.specs.Step.{first_that_holds, because, refusal, reasons, has_too_many_rules, changed, with_net, with_link, with_route, without_route, with_permission, asking_for, route_of, key_of, is_special, is_in, is_in_any, is_input, is_full, routes_at, table_routes, table_routes_of, is_local_net, is_way_of_other_family}
-use Rattle.policy_state.specs.View.{StateView, Ranked, Link, Network, LinkRoute, TetherPair, Kind, link_named}
-use Rattle.policy_state.proofs.Accepted.{none_holds, first-parts, of_link-at, changed_by_link-at, is_in-at, is_full-at, is_local_net-at, routes_at-at, table_routes-at, Routed, routed}
-use Rattle.policy_state.proofs.AlikeRules.{all-has}
+use Rattle.policy_state.specs.Good.{most_links, most_networks, most_interfaces, most_routes, most_ranges, most_rules, most_lockdown_ranges, most_pairs, most_users, is_by_link, is_index, is_local_network, is_output, is_default_there, AreLinks, ArePairs, IsNetwork, IsWellFormed, IsGood}
+use Rattle.policy_state.specs.Step.{any_meet_at, because, changed, changed_by_link, first_that_holds, has_pair, has_too_many_rules, is_full, is_in, is_in_any, is_in_local, is_input, is_local_net, is_net_unknown, is_of_user, is_pair, is_physical, is_protectable, is_special, is_user, is_way_of_other_family, key_of, of_links, of_net, ranges_come_reasons, ranges_meet, reasons, refusal, route_of, routes_at, table_routes, table_routes_of, with_link, with_net, with_permission, with_permission_of, with_ranges, with_route, without_interface, without_link, without_ranges, without_route}
+use Rattle.policy_state.specs.View.{StateView, Link, Network, LinkRoute, TetherPair, UserPermission, Kind, link_named}
+use Rattle.policy_state.proofs.Accepted.{none_holds, first-parts, of_link-at, of_net-at, of_links-at, both_named, BothNamed, changed_by_link-at, changed_by_link-none, changed_by_links-at, is_in-at, is_full-at, is_local_net-at, routes_at-at, table_routes-at, Routed, routed}
 use Rattle.policy_state.proofs.GoodStates.{each-has}
 use Rattle.policy_state.proofs.LinkLists.{links-add, links-remove, index_kept, may_be_interface}
-use Rattle.policy_state.proofs.NetworkChanges.{all-from, all-implied, has-link, MayBecome, formed-network}
+use Rattle.policy_state.proofs.Members.{all-implied, find-passes}
+use Rattle.policy_state.proofs.NetworkChanges.{MayBecome, formed-keeping, formed-leaving}
+use Rattle.policy_state.proofs.NetworkLists.{formed-more, formed-left}
+use Rattle.policy_state.proofs.NetworkParts.{has-link, id-found, in_none, local-class, physical-class, virtual-class}
+use Rattle.policy_state.proofs.NetworkSteps.{all_routes, few_by, link-left, linked, own_link, permitted, plain, ranges-left, ranges-more, rerouted, stays, unlinked}
 use Rattle.policy_state.proofs.Owners.{Has, any-from, find-has}
-use Rattle.policy_state.proofs.RouteLists.{network-with_route, network-without_route, routes_by-few}
+use Rattle.policy_state.proofs.PairLists.{may_be_input, pairs-filter, pairs-kept, pairs-push}
+use Rattle.policy_state.proofs.RouteLists.{network-with_route, network-without_route}
+use Rattle.policy_state.proofs.FewUsers.{AreFew, few-filter, few-permission, few-push}
 
 -- links
 
@@ -59,14 +62,7 @@ formed-links s links formed good interfaces inputs = record {
   users = formed.users;
   lockdown_disjoint = formed.lockdown_disjoint;
   lockdown_few = formed.lockdown_few;
-  pairs = record {
-    each = all-implied (is_pair s.links s.networks) (is_pair links s.networks) s.pairs (λ pair in_pair h.
-        let one = and_parts (nat_le 2 pair.input) (is_index s.links pair.input && (differ pair.input pair.out && is_output s.networks pair.out)) h in
-        let two = and_parts (is_index s.links pair.input) (differ pair.input pair.out && is_output s.networks pair.out) one.1 in
-        and_from _ _ one.0 (and_from _ _ (inputs pair in_pair two.0) two.1)) formed.pairs.each;
-    differ = formed.pairs.differ;
-    few = formed.pairs.few;
-  };
+  pairs = pairs-kept s.links links s.networks s.networks s.pairs formed.pairs inputs (λ pair in_pair h. h);
   default = formed.default;
 }
 
@@ -80,26 +76,6 @@ formed-link_add s name index formed most accepted =
     formed-links s more formed
     (links-add s.links name index formed.links (ltb-false index 2 facts.0) most facts.1.0 (leb-false most_links (length s.links) facts.1.1.0))
     (λ n i in_n in_i h. stays i h) (λ pair in_pair h. stays pair.input h)
-
--- nothing is found where no member passes
-find-none : {A : Type 0} (t : A → Bool) (xs : List A) (x : A) → find t xs ≡ None → Has xs x → t x ≡ false
-find-none t [] x none there = absurd there
-find-none t (y ∷ ys) x none there = elim (cases_Bool (t y)) [
-  | inl e ↦ absurd (none-some y (sym (rw e at none)))
-  | inr e ↦ by there e (find-none t ys x (rw e at none))
-]
-  where
-    by : Has (y ∷ ys) x → t y ≡ false → (Has ys x → t x ≡ false) → t x ≡ false
-    by (inl same) e rest = ap t (sym same) ∙ e
-    by (inr h) e rest = rest h
-
--- a link that is in no network is an interface of none
-in_none : (s : StateView) (link : ℕ) (n : Network) → is_in_any s link ≡ false → Has s.networks n → has_link n link ≡ false
-in_none s link n h there = by (find_link link s.networks) refl h
-  where
-    by : (o : Option Network) → find_link link s.networks ≡ o → is_some o ≡ false → has_link n link ≡ false
-    by None is h = find-none (λ m. has_link m link) s.networks n is there
-    by (Some m) is h = absurd (both_ways true h refl)
 
 formed-link_remove : (s : StateView) (name : List ℕ) → IsWellFormed s
     → first_that_holds (reasons s (command.LinkRemove name)) ≡ None → IsWellFormed (changed s (command.LinkRemove name))
@@ -121,139 +97,21 @@ formed-link_remove s name formed accepted =
 
 -- networks
 
--- an id that no network has
-pub unknown : (net : ℕ) (ns : List Network) → is_none (find_id net ns) ≡ true → (n : Network) → Has ns n → (net == n.id) ≡ false
-unknown net ns h n there = by (find_id net ns) refl h
-  where
-    by : (o : Option Network) → find_id net ns ≡ o → is_none o ≡ true → (net == n.id) ≡ false
-    by None is h = find-none (λ m. net == m.id) ns n is there
-    by (Some m) is h = absurd (both_ways true (sym h) refl)
+-- the network of a known id
+record Known (s : StateView) (net : ℕ) : Type 0 where
+  n : Network
+  found : find_id net s.networks ≡ Some n
+  there : Has s.networks n
 
--- a new network has nothing
-formed-create : (s : StateView) (net : ℕ) (permission : Permission) → IsWellFormed s → net < 65536
-    → first_that_holds (reasons s (command.CreatePhysical net permission)) ≡ None → IsWellFormed (changed s (command.CreatePhysical net permission))
-formed-create s net permission formed most accepted =
-    let facts = none_holds (reasons s (command.CreatePhysical net permission)) accepted in
-    let more : Network = record { id = net; kind = kind.Physical permission []; interfaces = []; routes = [] } in
-    let above : 100 ≤ net = ltb-false net 100 facts.0 in
-    let start : StartsLocal s.networks = formed.networks.local_first in
-    let apart : list_all (λ n. list_all (nets_differ n) (more ∷ [])) s.networks ≡ true =
-    all-from (λ n. list_all (nets_differ n) (more ∷ [])) s.networks (λ n there.
-    let id : differ n.id net ≡ true = not_from_false (n.id == net) (eqb-turned n.id net ∙ unknown net s.networks (not-false _ facts.1.0) n there) in
-    and_from _ _ (and_from _ _ id (and_from _ _ (all-from (λ i. list_all (differ i) []) n.interfaces (λ i h. refl))
-    (or_right (not (class_of n.kind == 1)) _ (all-from (λ r. list_all (ranks_differ r) []) (ranges_of n.kind) (λ r h. refl))))) refl) in
-    record {
-      links = formed.links;
-      networks = record {
-        each = all-push IsNetwork s.networks more formed.networks.each (record {
-          id_above = omega (arith, above);
-          id_fits = most;
-          interfaces_differ = refl;
-          interfaces_above = refl;
-          few_interfaces = omega arith;
-          ranked = refl;
-          few_ranges = omega arith;
-          routes_belong = tt;
-          keys_distinct = λ link. refl;
-          few_routes = λ link. omega arith;
-        });
-        differ = pairwise-append nets_differ s.networks (more ∷ []) formed.networks.differ refl apart;
-        local_first = record {
-          local = start.local;
-          others = start.others ++ more ∷ [];
-          first = ap (λ ns. ns ++ more ∷ []) start.first;
-          is_local = start.is_local;
-          id_is = start.id_is;
-          by_link = start.by_link;
-          few_routes = start.few_routes;
-          others_created = list_all-append (λ n. not (is_local_network n) && nat_le 100 n.id) start.others (more ∷ [])
-              ∙ and_from _ _ start.others_created (and_from _ _ (le-leb 100 net above) refl);
-        };
-        few = omega (arith, length-append s.networks (more ∷ []), leb-false most_networks (length s.networks) facts.1.1.0);
-      };
-      interfaces = list_all-append (λ n. list_all (is_index s.links) n.interfaces) s.networks (more ∷ []) ∙ and_from _ _ formed.interfaces refl;
-      users = formed.users;
-      lockdown_disjoint = formed.lockdown_disjoint;
-      lockdown_few = formed.lockdown_few;
-      pairs = record {
-        each = all-implied (is_pair s.links s.networks) (is_pair s.links (s.networks ++ more ∷ [])) s.pairs (λ pair in_pair h.
-            let one = and_parts (nat_le 2 pair.input) (is_index s.links pair.input && (differ pair.input pair.out && is_output s.networks pair.out)) h in
-            let two = and_parts (is_index s.links pair.input) (differ pair.input pair.out && is_output s.networks pair.out) one.1 in
-            let three = and_parts (differ pair.input pair.out) (is_output s.networks pair.out) two.1 in
-            and_from _ _ one.0 (and_from _ _ two.0 (and_from _ _ three.0
-            (list_any-append (λ n. has_link n pair.out && not (is_local_network n)) s.networks (more ∷ []) ∙ or_left _ _ three.1)))) formed.pairs.each;
-        differ = formed.pairs.differ;
-        few = formed.pairs.few;
-      };
-      default = default s.default formed.default more;
-    }
-  where
-    default : (id : Option ℕ) → is_default_there s.networks id ≡ true → (more : Network) → is_default_there (s.networks ++ more ∷ []) id ≡ true
-    default None h more = h
-    default (Some id) h more = list_any-append (λ n. (n.id == id) && kinds.is_physical n.kind) s.networks (more ∷ []) ∙ or_left _ _ h
+known : (s : StateView) (net : ℕ) → is_net_unknown s net ≡ false → Known s net
+known s net h = let it = some_there (find_id net s.networks) h in record { n = it.0; found = it.1; there = find-has (λ (m : Network). net == m.id) s.networks it.0 it.1 }
 
--- a network that stays as it is
-stays : (s : StateView) → IsWellFormed s → (n : Network) → Has s.networks n → MayBecome s n n
-stays s formed n there = record {
-  id = refl;
-  class = refl;
-  ranges = refl;
-  good = each-has IsNetwork s.networks n formed.networks.each there;
-  keeps = λ link h. h;
-  comes = λ link h. inl h;
-  by_link = λ local. subst (λ m. list_all is_by_link m.routes ≡ true) (one local) formed.networks.local_first.by_link;
-  few_routes = λ local. subst (λ m. length m.routes ≤ most_routes) (one local) formed.networks.local_first.few_routes;
-}
-  where
-    one : is_local n.kind ≡ true → formed.networks.local_first.local ≡ n
-    one local = by (subst (λ ns. Has ns n) formed.networks.local_first.first there)
-      where
-        by : Has (formed.networks.local_first.local ∷ formed.networks.local_first.others) n → formed.networks.local_first.local ≡ n
-        by (inl e) = e
-        by (inr h) =
-            let created = and_parts (not (is_local_network n)) (nat_le 100 n.id) (all-has (λ m. not (is_local_network m) && nat_le 100 m.id) formed.networks.local_first.others n formed.networks.local_first.others_created h) in
-            absurd (false≢true (sym (not-true (is_local_network n) created.0) ∙ local))
-
--- an interface comes
-linked : (s : StateView) (n : Network) (link : ℕ) → IsWellFormed s → Has s.networks n → has_link n link ≡ false → 2 ≤ link → is_index s.links link ≡ true
-    → is_in_any s link ≡ false → length n.interfaces < most_interfaces → MayBecome s n (record n { interfaces = n.interfaces ++ link ∷ [] })
-linked s n link formed there absent above known idle room =
-    let old : MayBecome s n n = stays s formed n there in
-    let good : IsNetwork n = old.good in
-    record {
-      id = refl;
-      class = refl;
-      ranges = refl;
-      good = record {
-        id_above = good.id_above;
-        id_fits = good.id_fits;
-        interfaces_differ = pairwise-append differ n.interfaces (link ∷ []) good.interfaces_differ refl
-            (all-from (λ i. list_all (differ i) (link ∷ [])) n.interfaces (λ i in_i.
-            and_from _ _ (not_from_false (i == link) (false_from_ne_true (i == link) (λ same. false≢true (sym absent ∙ has-link n link (subst (Has n.interfaces) (eqb-true i link same) in_i))))) refl));
-        interfaces_above = list_all-append (nat_le 2) n.interfaces (link ∷ []) ∙ and_from _ _ good.interfaces_above (and_from _ _ (le-leb 2 link above) refl);
-        few_interfaces = omega (arith, length-append n.interfaces (link ∷ []));
-        ranked = good.ranked;
-        few_ranges = good.few_ranges;
-        routes_belong = all-weaker _ _ (λ r h. (list_any-append (λ other. other == r.link) n.interfaces (link ∷ []) ∙ or_left _ _ h.0, h.1)) n.routes good.routes_belong;
-        keys_distinct = good.keys_distinct;
-        few_routes = good.few_routes;
-      };
-      keeps = λ i h. list_any-append (λ other. other == i) n.interfaces (link ∷ []) ∙ or_left _ _ h;
-      comes = λ i h. came i (sym (list_any-append (λ other. other == i) n.interfaces (link ∷ [])) ∙ h);
-      by_link = old.by_link;
-      few_routes = old.few_routes;
-    }
-  where
-    came : (i : ℕ) → (has_link n i || ((link == i) || false)) ≡ true → (has_link n i ≡ true) ⊎ ((is_index s.links i ≡ true) × ((o : Network) → Has s.networks o → has_link o i ≡ false))
-    came i h = elim (cases_Bool (has_link n i)) [
-      | inl e ↦ inl e
-      | inr e ↦ elim (cases_Bool (link == i)) [
-        | inl same ↦
-            let is : link ≡ i = eqb-true link i same in
-            inr (subst (λ j. is_index s.links j ≡ true) is known, λ o in_o. subst (λ j. has_link o j ≡ false) is (in_none s link o idle in_o))
-        | inr other ↦ absurd (false≢true (rw (e, other) at h))
-      ]
-    ]
+-- an interface comes to those that are there
+with_link-keeps : (n : Network) (link i : ℕ) → has_link n i ≡ true → has_link (with_link link n) i ≡ true
+with_link-keeps n link i h = elim (cases_Bool (has_link n link)) as (λ _. has_link (with_link link n) i ≡ true) [
+  | inl has ↦ rw has h
+  | inr absent ↦ rw absent (list_any-append (λ other. other == i) n.interfaces (link ∷ []) ∙ or_left _ _ h)
+]
 
 formed-interface_add : (s : StateView) (net : ℕ) (name : List ℕ) → IsWellFormed s
     → first_that_holds (reasons s (command.InterfaceAdd net name)) ≡ None → IsWellFormed (changed s (command.InterfaceAdd net name))
@@ -271,7 +129,7 @@ formed-interface_add s net name formed accepted =
     let full : (not (is_in s net link) && is_full s net) ≡ false = sym (of_link-at s name (λ i. not (is_in s net i) && is_full s net) link is) ∙ facts.1.1.1.1.0 in
     let may = may_be_interface s.links name link formed.links facts.1.0 is in
     subst IsWellFormed (sym (changed_by_link-at s name (λ i. with_net net (with_link i)) link is))
-    (formed-network s formed net n found (with_link link) (elim (cases_Bool (has_link n link)) [
+    (formed-keeping s formed net n found (with_link link) (elim (cases_Bool (has_link n link)) [
       | inl has ↦
           let same : with_link link n ≡ n = rw has refl in
           subst (MayBecome s n) (sym same) (stays s formed n there)
@@ -281,40 +139,24 @@ formed-interface_add s net name formed accepted =
           let has_room : is_full s net ≡ false = rw (in_it, absent) at full in
           let room : length n.interfaces < most_interfaces = leb-false most_interfaces (length n.interfaces) (sym (is_full-at s net n found) ∙ has_room) in
           subst (MayBecome s n) (sym grows) (linked s n link formed there absent may.0 may.1 idle room)
-    ]))
+    ]) (λ i h. with_link-keeps n link i h))
 
--- other routes of a network
-rerouted : (s : StateView) (n : Network) (routes : List LinkRoute) → IsWellFormed s → Has s.networks n → IsNetwork (record n { routes = routes })
-    → (is_local n.kind ≡ true → list_all is_by_link routes ≡ true) → (is_local n.kind ≡ true → length routes ≤ most_routes) → MayBecome s n (record n { routes = routes })
-rerouted s n routes formed there good by_link few = record {
-  id = refl;
-  class = refl;
-  ranges = refl;
-  good = good;
-  keeps = λ link h. h;
-  comes = λ link h. inl h;
-  by_link = by_link;
-  few_routes = few;
-}
+formed-interface_remove : (s : StateView) (net : ℕ) (name : List ℕ) → IsWellFormed s
+    → first_that_holds (reasons s (command.InterfaceRemove net name)) ≡ None → IsWellFormed (changed s (command.InterfaceRemove net name))
+formed-interface_remove s net name formed accepted = by (link_named s name) refl
+  where
+    left : (link : ℕ) → IsWellFormed (without_interface net link s)
+    left link =
+        let facts = none_holds (reasons s (command.InterfaceRemove net name)) accepted in
+        let at : Known s net = known s net facts.0 in
+        elim (cases_Bool (is_in s net link)) as (λ _. IsWellFormed (without_interface net link s)) [
+          | inl e ↦ rw e (formed-leaving s formed net at.n at.found (without_link link) (unlinked s at.n link formed at.there) link (λ i other h. link-left at.n link i other h))
+          | inr e ↦ rw e formed
+        ]
 
-few_by : (n : Network) (link : ℕ) (b : Bool) → is_local n.kind ≡ b → length (table_routes_of n link) < most_routes → length (routes_by link n.routes) < most_routes
-few_by n link true local room =
-    let all : length (map (λ (r : LinkRoute). r.route) n.routes) < most_routes = rw local at room in
-    omega (arith, routes_by-few link n.routes, length-map n.routes (λ (r : LinkRoute). r.route))
-few_by n link false other room = rw other at room
-
-all_routes : (n : Network) (link : ℕ) → is_local n.kind ≡ true → length (table_routes_of n link) < most_routes → length (map (λ (r : LinkRoute). r.route) n.routes) < most_routes
-all_routes n link local room = rw local at room
-
-plain : (b : Bool) → (b && true) ≡ false → b ≡ false
-plain true h = absurd (false≢true (sym h))
-plain false h = refl
-
-own_link : (link : ℕ) (prefix : Prefix) (w : Way) → is_special w ≡ false → is_by_link (record { link = link; route = route_of link prefix w }) ≡ true
-own_link link prefix way.Direct h = eq-eqb link link refl
-own_link link prefix (way.Via gateway) h = eq-eqb link link refl
-own_link link prefix way.Unreachable h = absurd (false≢true (sym h))
-own_link link prefix way.Throw h = absurd (false≢true (sym h))
+    by : (o : Option ℕ) → link_named s name ≡ o → IsWellFormed (changed_by_link s name (λ link. without_interface net link))
+    by None is = subst IsWellFormed (sym (changed_by_link-none s name (λ link. without_interface net link) is)) formed
+    by (Some link) is = subst IsWellFormed (sym (changed_by_link-at s name (λ i. without_interface net i) link is)) (left link)
 
 formed-route_add : (s : StateView) (net : ℕ) (name : List ℕ) (prefix : Prefix) (w : Way) → IsWellFormed s
     → first_that_holds (reasons s (command.RouteAdd net name prefix w)) ≡ None → IsWellFormed (changed s (command.RouteAdd net name prefix w))
@@ -334,11 +176,11 @@ formed-route_add s net name prefix w formed accepted =
     let room : length (table_routes_of n link) < most_routes = leb-false most_routes (length (table_routes_of n link)) full in
     let more : LinkRoute = record { link = link; route = route_of link prefix w } in
     subst IsWellFormed (sym (changed_by_link-at s name (λ i. with_net net (with_route i (route_of i prefix w))) link at.named))
-    (formed-network s formed net n at.found (with_route link (route_of link prefix w))
+    (formed-keeping s formed net n at.found (with_route link (route_of link prefix w))
     (rerouted s n (n.routes ++ more ∷ []) formed there
     (network-with_route n link prefix w old.good at.has ways.1 absent (few_by n link (is_local n.kind) refl room))
     (λ local. list_all-append is_by_link n.routes (more ∷ []) ∙ and_from _ _ (old.by_link local) (and_from _ _ (own_link link prefix w (plain (is_special w) (rw local at special))) refl))
-    (λ local. omega (arith, length-append n.routes (more ∷ []), length-map n.routes (λ (r : LinkRoute). r.route), all_routes n link local room))))
+    (λ local. omega (arith, length-append n.routes (more ∷ []), length-map n.routes (λ (r : LinkRoute). r.route), all_routes n link local room))) (λ i h. h))
 
 formed-route_remove : (s : StateView) (net : ℕ) (name : List ℕ) (prefix : Prefix) (special : Bool) → IsWellFormed s
     → first_that_holds (reasons s (command.RouteRemove net name prefix special)) ≡ None → IsWellFormed (changed s (command.RouteRemove net name prefix special))
@@ -351,55 +193,161 @@ formed-route_remove s net name prefix special formed accepted =
     let key : Route = key_of at.link prefix special in
     let left : LinkRoute → Bool = λ r. not (is_keyed_by at.link key r) in
     subst IsWellFormed (sym (changed_by_link-at s name (λ i. with_net net (without_route i (key_of i prefix special))) at.link at.named))
-    (formed-network s formed net n at.found (without_route at.link key)
+    (formed-keeping s formed net n at.found (without_route at.link key)
     (rerouted s n (filter left n.routes) formed there (network-without_route n at.link key old.good)
     (λ local. list_all-filter is_by_link left n.routes (old.by_link local))
-    (λ local. omega (arith, length-filter-le left n.routes, old.few_routes local))))
+    (λ local. omega (arith, length-filter-le left n.routes, old.few_routes local))) (λ i h. h))
 
--- another permission
+-- permissions of networks
 formed-permission : (s : StateView) (net : ℕ) (permission : Permission) → IsWellFormed s
     → first_that_holds (reasons s (command.PermissionNetwork net permission)) ≡ None → IsWellFormed (changed s (command.PermissionNetwork net permission))
 formed-permission s net permission formed accepted =
     let facts = none_holds (reasons s (command.PermissionNetwork net permission)) accepted in
-    let known = some_there (find_id net s.networks) facts.0 in
-    let n : Network = known.0 in
-    let found : find_id net s.networks ≡ Some n = known.1 in
-    let there : Has s.networks n = find-has (λ (m : Network). net == m.id) s.networks n found in
-    let old : MayBecome s n n = stays s formed n there in
-    let good : IsNetwork n = old.good in
-    let ranges : ranges_of (asking_for permission n.kind) ≡ ranges_of n.kind = same-ranges n.kind in
-    let class : class_of (asking_for permission n.kind) ≡ class_of n.kind = same-class n.kind in
-    formed-network s formed net n found (with_permission permission) (record {
-      id = refl;
-      class = class;
-      ranges = ranges;
-      good = record {
-        id_above = good.id_above;
-        id_fits = good.id_fits;
-        interfaces_differ = good.interfaces_differ;
-        interfaces_above = good.interfaces_above;
-        few_interfaces = good.few_interfaces;
-        ranked = ap are_ranked ranges ∙ good.ranked;
-        few_ranges = subst (λ (rs : List Ranked). length rs ≤ 1000) (sym ranges) good.few_ranges;
-        routes_belong = good.routes_belong;
-        keys_distinct = good.keys_distinct;
-        few_routes = good.few_routes;
-      };
-      keeps = λ link h. h;
-      comes = λ link h. inl h;
-      by_link = old.by_link;
-      few_routes = old.few_routes;
-    })
-  where
-    same-ranges : (k : Kind) → ranges_of (asking_for permission k) ≡ ranges_of k
-    same-ranges kind.Local = refl
-    same-ranges (kind.Physical old apps) = refl
-    same-ranges (kind.Virtual secure users) = refl
+    let at : Known s net = known s net facts.0 in
+    formed-keeping s formed net at.n at.found (with_permission permission) (permitted s at.n permission formed at.there) (λ i h. h)
 
-    same-class : (k : Kind) → class_of (asking_for permission k) ≡ class_of k
-    same-class kind.Local = refl
-    same-class (kind.Physical old apps) = refl
-    same-class (kind.Virtual secure users) = refl
+-- ranges of a network
+
+formed-ranges_go : (s : StateView) (net : ℕ) (gone : List UidRange) → IsWellFormed s → is_net_unknown s net ≡ false → IsWellFormed (with_net net (without_ranges gone) s)
+formed-ranges_go s net gone formed there =
+    let at : Known s net = known s net there in
+    formed-keeping s formed net at.n at.found (without_ranges gone) (ranges-left s at.n gone formed at.there) (λ i h. h)
+
+formed-ranges_come : (test : Kind → Bool) (class : ℕ) → ((k : Kind) → (class_of k == class) ≡ test k) → (class == 0) ≡ false → (s : StateView) (net rank : ℕ) (more : List UidRange) → IsWellFormed s
+    → first_that_holds (ranges_come_reasons test s net rank more) ≡ None → IsWellFormed (with_net net (with_ranges rank more) s)
+formed-ranges_come test class is not_local s net rank more formed accepted =
+    let facts = none_holds (ranges_come_reasons test s net rank more) accepted in
+    let at : Known s net = known s net facts.0 in
+    let n : Network = at.n in
+    let good : IsNetwork n = each-has IsNetwork s.networks n formed.networks.each at.there in
+    let valid = or_parts (not (of_net s net (λ m. test m.kind)) || self_meets more) (nat_lt last_rank rank) facts.1.0 in
+    let fit = or_parts (not (of_net s net (λ m. test m.kind))) (self_meets more) valid.0 in
+    let low : rank ≤ 99 = ltb-false 99 rank valid.1 in
+    let tested : test n.kind ≡ true = sym (of_net-at s net n at.found (λ m. test m.kind)) ∙ not-false (of_net s net (λ m. test m.kind)) fit.0 in
+    let other : is_local n.kind ≡ false = sym (local-class n.kind) ∙ (ap (λ c. c == 0) (eqb-true (class_of n.kind) class (is n.kind ∙ tested)) ∙ not_local) in
+    let free = or_parts (ranges_meet s net more) (any_meet_at test s rank more) facts.1.1.0 in
+    let apart : users_meet (ranges_of n.kind) more ≡ false = sym (of_net-at s net n at.found (λ m. users_meet (ranges_of m.kind) more)) ∙ free.0 in
+    let room : nat_lt most_ranges (length (ranges_of n.kind) + length more) ≡ false =
+    sym (of_net-at s net n at.found (λ m. nat_lt most_ranges (length (ranges_of m.kind) + length more))) ∙ facts.1.1.1.0 in
+    formed-keeping s formed net n at.found (with_ranges rank more)
+    (ranges-more test class is s n tested rank more formed at.there other (are_ranked-more rank (ranges_of n.kind) more good.ranked (le-leb rank 99 low) fit.1 apart)
+    (ltb-false most_ranges (length (ranges_of n.kind) + length more) room) free.1)
+    (λ i h. h)
+
+-- the default network
+
+formed-default : (s : StateView) (default : Option ℕ) → IsWellFormed s → is_default_there s.networks default ≡ true → IsWellFormed (record s { default = default })
+formed-default s default formed there = record {
+  links = formed.links;
+  networks = formed.networks;
+  interfaces = formed.interfaces;
+  users = formed.users;
+  lockdown_disjoint = formed.lockdown_disjoint;
+  lockdown_few = formed.lockdown_few;
+  pairs = formed.pairs;
+  default = there;
+}
+
+formed-default_set : (s : StateView) (net : ℕ) → IsWellFormed s → first_that_holds (reasons s (command.DefaultSet net)) ≡ None → IsWellFormed (changed s (command.DefaultSet net))
+formed-default_set s net formed accepted =
+    let facts = none_holds (reasons s (command.DefaultSet net)) accepted in
+    let at : Known s net = known s net facts.0 in
+    let n : Network = at.n in
+    let physical : kinds.is_physical n.kind ≡ true = sym (of_net-at s net n at.found (λ m. kinds.is_physical m.kind)) ∙ not-false (is_physical s net) facts.1.0 in
+    formed-default s (Some net) formed
+    (any-from (λ m. (m.id == net) && kinds.is_physical m.kind) s.networks n at.there (and_from _ _ (eq-eqb n.id net (sym (id-found net s.networks n at.found))) physical))
+
+-- users
+
+formed-users : (s : StateView) (permissions : List UserPermission) (protectable : List Uid) → IsWellFormed s → AreFew (λ (p : UserPermission). p.uid.number) most_users permissions
+    → AreFew (λ (u : Uid). u.number) most_users protectable → IsWellFormed (record s { permissions = permissions; protectable = protectable })
+formed-users s permissions protectable formed one other = record {
+  links = formed.links;
+  networks = formed.networks;
+  interfaces = formed.interfaces;
+  users = record { permissions_differ = one.distinct; few_permissions = one.few; protectable_differ = other.distinct; few_protectable = other.few };
+  lockdown_disjoint = formed.lockdown_disjoint;
+  lockdown_few = formed.lockdown_few;
+  pairs = formed.pairs;
+  default = formed.default;
+}
+
+few-permissions : (s : StateView) → IsWellFormed s → AreFew (λ (p : UserPermission). p.uid.number) most_users s.permissions
+few-permissions s formed = record { distinct = formed.users.permissions_differ; few = formed.users.few_permissions }
+
+few-protectable : (s : StateView) → IsWellFormed s → AreFew (λ (u : Uid). u.number) most_users s.protectable
+few-protectable s formed = record { distinct = formed.users.protectable_differ; few = formed.users.few_protectable }
+
+formed-user : (s : StateView) (uid : Uid) (permission : Permission) → IsWellFormed s
+    → first_that_holds (reasons s (command.PermissionUser uid permission)) ≡ None → IsWellFormed (changed s (command.PermissionUser uid permission))
+formed-user s uid permission formed accepted =
+    let facts = none_holds (reasons s (command.PermissionUser uid permission)) accepted in
+    formed-users s (with_permission_of uid permission s.permissions) s.protectable formed
+    (few-permission most_users uid permission s.permissions (few-permissions s formed) facts.0) (few-protectable s formed)
+
+formed-protect : (s : StateView) (uid : Uid) → IsWellFormed s → first_that_holds (reasons s (command.ProtectAllow uid)) ≡ None → IsWellFormed (changed s (command.ProtectAllow uid))
+formed-protect s uid formed accepted =
+    let facts = none_holds (reasons s (command.ProtectAllow uid)) accepted in
+    elim (cases_Bool (is_protectable s uid)) as (λ _. IsWellFormed (changed s (command.ProtectAllow uid))) [
+      | inl e ↦ rw e formed
+      | inr e ↦
+          let full : nat_le most_users (length s.protectable) ≡ false = rw e at facts.0 in
+          rw e (formed-users s s.permissions (s.protectable ++ uid ∷ []) formed (few-permissions s formed)
+          (few-push (λ (u : Uid). u.number) most_users s.protectable uid (few-protectable s formed) e (leb-false most_users (length s.protectable) full)))
+    ]
+
+-- tether pairs
+
+formed-pairs : (s : StateView) (pairs : List TetherPair) → IsWellFormed s → ArePairs s.links s.networks pairs → IsWellFormed (record s { pairs = pairs })
+formed-pairs s pairs formed good = record {
+  links = formed.links;
+  networks = formed.networks;
+  interfaces = formed.interfaces;
+  users = formed.users;
+  lockdown_disjoint = formed.lockdown_disjoint;
+  lockdown_few = formed.lockdown_few;
+  pairs = good;
+  default = formed.default;
+}
+
+-- an interface of a network that isn't local
+may_be_output : (s : StateView) (link : ℕ) → is_in_any s link ≡ true → is_in_local s link ≡ false → is_output s.networks link ≡ true
+may_be_output s link any away = by (find_link link s.networks) refl any away
+  where
+    by : (o : Option Network) → find_link link s.networks ≡ o → is_some o ≡ true → (elim o as (λ _. Bool) [ Some n ↦ is_local n.kind | None ↦ false ]) ≡ false → is_output s.networks link ≡ true
+    by None is some h = absurd (false≢true some)
+    by (Some n) is some h =
+        any-from (λ m. has_link m link && not (is_local_network m)) s.networks n (find-has (λ m. has_link m link) s.networks n is)
+        (and_from _ _ (find-passes (λ m. has_link m link) s.networks n is) (not_from_false _ h))
+
+formed-tether_add : (s : StateView) (input out : List ℕ) → IsWellFormed s
+    → first_that_holds (reasons s (command.TetherAdd input out)) ≡ None → IsWellFormed (changed s (command.TetherAdd input out))
+formed-tether_add s input out formed accepted =
+    let facts = none_holds (reasons s (command.TetherAdd input out)) accepted in
+    let there : of_links s input out (λ came goes. is_in_any s goes) ≡ true = not-false (of_links s input out (λ came goes. is_in_any s goes)) facts.0 in
+    let at : BothNamed s input out = both_named s input out (λ came goes. is_in_any s goes) there in
+    let came : ℕ = at.came in
+    let goes : ℕ = at.goes in
+    let any : is_in_any s goes ≡ true = sym (of_links-at s input out (λ came goes. is_in_any s goes) at) ∙ there in
+    let valid : ((came == goes) || (came == lo) || is_in_local s goes) ≡ false = sym (of_links-at s input out (λ came goes. (came == goes) || (came == lo) || is_in_local s goes) at) ∙ facts.1.0 in
+    let two = or_parts ((came == goes) || (came == lo)) (is_in_local s goes) valid in
+    let one = or_parts (came == goes) (came == lo) two.0 in
+    let absent : has_pair s came goes ≡ false = sym (of_links-at s input out (has_pair s) at) ∙ facts.1.1.0 in
+    let may = may_be_input s.links input came formed.links one.1 at.input_named in
+    subst IsWellFormed (sym (changed_by_links-at s input out (λ came goes t. record t { pairs = t.pairs ++ record { input = came; out = goes } ∷ [] }) at))
+    (formed-pairs s (s.pairs ++ record { input = came; out = goes } ∷ []) formed
+    (pairs-push s.links s.networks s.pairs (record { input = came; out = goes }) formed.pairs
+    (record { above = le-leb 2 came may.0; known = may.1; differs = not_from_false (came == goes) one.0; output = may_be_output s goes any two.1 })
+    absent (leb-false most_pairs (length s.pairs) facts.1.1.1.0)))
+
+formed-tether_remove : (s : StateView) (input out : List ℕ) → IsWellFormed s
+    → first_that_holds (reasons s (command.TetherRemove input out)) ≡ None → IsWellFormed (changed s (command.TetherRemove input out))
+formed-tether_remove s input out formed accepted =
+    let facts = none_holds (reasons s (command.TetherRemove input out)) accepted in
+    let at : BothNamed s input out = both_named s input out (has_pair s) (not-false (of_links s input out (has_pair s)) facts.0) in
+    subst IsWellFormed (sym (changed_by_links-at s input out (λ came goes t. record t { pairs = filter (λ p. not (is_pair (record { input = came; out = goes }) p)) t.pairs }) at))
+    (formed-pairs s (filter (λ p. not (is_pair (record { input = at.came; out = at.goes }) p)) s.pairs) formed
+    (pairs-filter s.links s.networks (λ p. not (is_pair (record { input = at.came; out = at.goes }) p)) s.pairs formed.pairs))
 
 -- lockdown
 
@@ -415,14 +363,37 @@ formed-lockdown s ranges formed disjoint few = record {
   default = formed.default;
 }
 
+-- all commands
+
 pub formed-changed : (s : StateView) (c : Command) → IsWellFormed s → FitsTypes c → first_that_holds (reasons s c) ≡ None → IsWellFormed (changed s c)
 formed-changed s (command.LinkAdd name index) formed fits accepted = formed-link_add s name index formed fits accepted
 formed-changed s (command.LinkRemove name) formed fits accepted = formed-link_remove s name formed accepted
-formed-changed s (command.CreatePhysical net permission) formed fits accepted = formed-create s net permission formed fits accepted
+formed-changed s (command.CreatePhysical net permission) formed fits accepted =
+    let facts = none_holds (reasons s (command.CreatePhysical net permission)) accepted in
+    formed-more s formed net (kind.Physical permission []) fits (ltb-false net 100 facts.0) (not-false (is_net_unknown s net) facts.1.0) (leb-false most_networks (length s.networks) facts.1.1.0) refl refl
+formed-changed s (command.CreateVirtual net secure) formed fits accepted =
+    let facts = none_holds (reasons s (command.CreateVirtual net secure)) accepted in
+    formed-more s formed net (kind.Virtual secure []) fits (ltb-false net 100 facts.0) (not-false (is_net_unknown s net) facts.1.0) (leb-false most_networks (length s.networks) facts.1.1.0) refl refl
+formed-changed s (command.Destroy net) formed fits accepted = formed-left s formed net (none_holds (reasons s (command.Destroy net)) accepted).0
 formed-changed s (command.InterfaceAdd net name) formed fits accepted = formed-interface_add s net name formed accepted
+formed-changed s (command.InterfaceRemove net name) formed fits accepted = formed-interface_remove s net name formed accepted
 formed-changed s (command.RouteAdd net name prefix w) formed fits accepted = formed-route_add s net name prefix w formed accepted
 formed-changed s (command.RouteRemove net name prefix special) formed fits accepted = formed-route_remove s net name prefix special formed accepted
+formed-changed s (command.UsersAdd net rank ranges) formed fits accepted = formed-ranges_come kinds.is_virtual 2 virtual-class refl s net rank ranges formed accepted
+formed-changed s (command.UsersRemove net ranges) formed fits accepted = formed-ranges_go s net ranges formed (none_holds (reasons s (command.UsersRemove net ranges)) accepted).0
+formed-changed s (command.AppAdd net rank ranges) formed fits accepted = formed-ranges_come kinds.is_physical 1 physical-class refl s net rank ranges formed accepted
+formed-changed s (command.AppRemove net ranges) formed fits accepted = formed-ranges_go s net ranges formed (none_holds (reasons s (command.AppRemove net ranges)) accepted).0
+formed-changed s (command.DefaultSet net) formed fits accepted = formed-default_set s net formed accepted
+formed-changed s command.DefaultClear formed fits accepted = formed-default s None formed refl
 formed-changed s (command.PermissionNetwork net permission) formed fits accepted = formed-permission s net permission formed accepted
+formed-changed s (command.PermissionUser uid permission) formed fits accepted = formed-user s uid permission formed accepted
+formed-changed s (command.PermissionClear uid) formed fits accepted =
+    formed-users s (filter (λ p. not (is_of_user uid p)) s.permissions) s.protectable formed
+    (few-filter (λ (p : UserPermission). p.uid.number) most_users (λ p. not (is_of_user uid p)) s.permissions (few-permissions s formed)) (few-protectable s formed)
+formed-changed s (command.ProtectAllow uid) formed fits accepted = formed-protect s uid formed accepted
+formed-changed s (command.ProtectDeny uid) formed fits accepted =
+    formed-users s s.permissions (filter (λ u. not (is_user uid u)) s.protectable) formed (few-permissions s formed)
+    (few-filter (λ (u : Uid). u.number) most_users (λ u. not (is_user uid u)) s.protectable (few-protectable s formed))
 formed-changed s (command.LockdownAdd range) formed fits accepted =
     let facts = none_holds (reasons s (command.LockdownAdd range)) accepted in
     formed-lockdown s (s.lockdown ++ range ∷ []) formed (AreDisjoint-append s.lockdown (range ∷ []) formed.lockdown_disjoint refl facts.0)
@@ -430,6 +401,8 @@ formed-changed s (command.LockdownAdd range) formed fits accepted =
 formed-changed s (command.LockdownRemove range) formed fits accepted =
     formed-lockdown s (without s.lockdown (range ∷ [])) formed (AreDisjoint-filter (λ other. not (has (range ∷ []) other)) s.lockdown formed.lockdown_disjoint)
     (omega (arith, formed.lockdown_few, length-filter-le (λ other. not (has (range ∷ []) other)) s.lockdown))
+formed-changed s (command.TetherAdd input out) formed fits accepted = formed-tether_add s input out formed accepted
+formed-changed s (command.TetherRemove input out) formed fits accepted = formed-tether_remove s input out formed accepted
 
 -- what an accepted command shows: none of its reasons, and not too many rules
 pub accepted-parts : (s : StateView) (c : Command) → refusal s c ≡ None → (first_that_holds (reasons s c) ≡ None) × (has_too_many_rules s c ≡ false)

@@ -13,7 +13,7 @@ use Rattle.list_lemmas.proofs.Alls.{all-push, all-filter}
 use Rattle.list_lemmas.proofs.Anys.{any-map, length-filter-le, filter-others}
 use Rattle.networks.specs.Lists.{are_distinct}
 use Rattle.policy_state.specs.Good.{AreLinks, are_names_distinct, most_links}
-use Rattle.policy_state.specs.declared.link.Link.{Link}
+use Rattle.link_table.specs.declared.link.Link.{Link}
 
 none-either : (p q : Link → Bool) (ls : List Link) → list_any (λ l. p l || q l) ls ≡ false → (list_any p ls ≡ false) × (list_any q ls ≡ false)
 none-either p q [] none = (refl, refl)

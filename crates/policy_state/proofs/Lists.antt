@@ -6,7 +6,7 @@ use Rattle.std.proofs.lemmas.Bool.{and_from, and_parts, or_parts, not-true, not_
 use Rattle.std.proofs.lemmas.Slice.Eq.{bytes_eq-Decides}
 use Rattle.list_lemmas.proofs.Anys.{none-push, none-filter}
 use Rattle.policy_state.specs.Good.{are_names_distinct}
-use Rattle.policy_state.specs.declared.link.Link.{Link}
+use Rattle.link_table.specs.declared.link.Link.{Link}
 
 pub names_unlike-sym : (a b : List ℕ) → bytes_eq a b ≡ false → bytes_eq b a ≡ false
 names_unlike-sym a b unlike =

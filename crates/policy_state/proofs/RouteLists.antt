@@ -41,7 +41,7 @@ none-routes_by p q l (r ∷ rs) none = by (r.link == l) (q r) refl (none-routes_
     by false true is rest h = rw is (rest h)
     by false false is rest h = rest h
 
-keys-filter : (q : LinkRoute → Bool) (l : ℕ) (rs : List LinkRoute) → are_keys_distinct (routes_by l rs) ≡ true → are_keys_distinct (routes_by l (filter q rs)) ≡ true
+pub keys-filter : (q : LinkRoute → Bool) (l : ℕ) (rs : List LinkRoute) → are_keys_distinct (routes_by l rs) ≡ true → are_keys_distinct (routes_by l (filter q rs)) ≡ true
 keys-filter q l [] distinct = refl
 keys-filter q l (r ∷ rs) distinct = by (r.link == l) (q r) refl (keys-filter q l rs) distinct
   where
@@ -55,7 +55,7 @@ keys-filter q l (r ∷ rs) distinct = by (r.link == l) (q r) refl (keys-filter q
     by false true is rest h = rw is (rest h)
     by false false is rest h = rest h
 
-length-routes_by : (q : LinkRoute → Bool) (l : ℕ) (rs : List LinkRoute) → length (routes_by l (filter q rs)) ≤ length (routes_by l rs)
+pub length-routes_by : (q : LinkRoute → Bool) (l : ℕ) (rs : List LinkRoute) → length (routes_by l (filter q rs)) ≤ length (routes_by l rs)
 length-routes_by q l [] = omega arith
 length-routes_by q l (r ∷ rs) = by (r.link == l) (q r) refl (length-routes_by q l rs)
   where

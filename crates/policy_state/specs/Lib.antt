@@ -3,7 +3,12 @@ pub mod Parts
 pub mod Rows
 pub mod Table
 pub mod Counts
+pub mod Tallies
 pub mod Good
 pub mod Step
-pub mod Touched
-pub mod TouchedCounts
+pub mod Change
+pub mod Accept
+pub mod ChangedNet
+pub mod UserLists
+pub mod Users
+pub mod Room

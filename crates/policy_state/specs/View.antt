@@ -3,7 +3,7 @@ pub use Rattle.networks.specs.declared.kind.Kind.{Kind}
 pub use Rattle.networks.specs.declared.kind.Kind.TheVariants.{Local, Physical, Virtual}
 pub use Rattle.networks.specs.declared.network.LinkRoute.{LinkRoute}
 pub use Rattle.networks.specs.declared.network.Network.{Network}
-pub use Rattle.policy_state.specs.declared.link.Link.{Link}
+pub use Rattle.link_table.specs.declared.link.Link.{Link}
 pub use Rattle.policy_state.specs.declared.tether.TetherPair.{TetherPair}
 pub use Rattle.policy_state.specs.declared.users.UserPermission.{UserPermission}
 pub use Rattle.uid_ranges.specs.declared.ranked.Ranked.{Ranked}

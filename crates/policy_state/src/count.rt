@@ -1,198 +1,260 @@
-//! How many rules a state has, without making them.
-ghost use Rattle.std.specs.Prelude.{◌≡◌, ◌≤◌, ◌*◌, length, sum_by};
-ghost use Rattle.std.specs.Option.{option_copied};
-ghost use Rattle.policy_state.specs.Counts.{count_in, count_at, count_per, rule_count};
-ghost use Rattle.policy_state.specs.Good.{AreNetworks, IsNetwork, IsWellFormed};
-ghost use Rattle.policy_state.specs.Parts.{view_of};
-ghost use Rattle.policy_state.specs.Rows.{Row, is_default, links_of, default_among, picks};
-ghost use Rattle.policy_state.specs.Table.{rows};
-ghost use Rattle.policy_state.specs.Touched.{touched};
-ghost use Rattle.policy_state.specs.TouchedCounts.{links_after, count_per_after};
+//! How many rules a state has, and how many after a change, without going over its networks.
+ghost use Rattle.std.specs.Prelude.{◌≡◌, ◌≤◌, ◌&&◌, ◌+◌, ◌*◌, ◌∷◌, [], ℕ, List, None, length, nat_lt};
+ghost use Rattle.fwmark.specs.declared.permission.Permission.{Permission};
+ghost use Rattle.network_store.specs.Stored.{kind_of};
+ghost use Rattle.networks.specs.Kinds.{is_physical};
+ghost use Rattle.networks.specs.Lists.{find_link};
+ghost use Rattle.networks.specs.Network.{local_network};
+ghost use Rattle.policy_state.specs.Change.{Fits, turned};
+ghost use Rattle.policy_state.specs.Counts.{rule_count};
+ghost use Rattle.policy_state.specs.Good.{IsGood, most_networks, most_ranges, most_rules};
+ghost use Rattle.policy_state.specs.Parts.{view_of, IsTallied};
+ghost use Rattle.policy_state.specs.Rows.{default_among, is_default, links_of};
+ghost use Rattle.policy_state.specs.Step.{with_net, with_link, with_ranges, with_permission};
+ghost use Rattle.policy_state.specs.Tallies as tallies;
+ghost use Rattle.policy_state.specs.View.{StateView};
+ghost use Rattle.uid_ranges.specs.declared.range.UidRange.{UidRange};
 
+use crate::change::Change;
 use crate::parts::Parts;
-use crate::row::{NetworkPart, NetworkSet, OnePer, Row};
-use crate::rows::ROWS;
+use crate::picked::{default_network, is_default};
 use crate::state::State;
-use crate::touch::{Touch, interfaces_after, is_free_after};
-use networks::{Network, Networks};
+use fwmark::Permission;
+use network_store::{StoredKind, StoredNetwork};
 
-/// Whether this is the id of the default network.
-fn is_default(default: Option<u16>, id: u16) -> bool
-    ensures { result ≡ is_default default id }
-{
-    match default {
-        None => false,
-        Some(default) => default == id,
-    }
+/// The most rules that a kernel is given in each family.
+const MOST_RULES: u64 = 40000;
+
+/// How many rules the networks have for themselves, and how many VPNs there are: each VPN has a rule more for each interface of
+/// the default network.
+#[derive(Clone, Copy, Debug)]
+pub struct Tallies {
+    pub own: u64,
+    pub virtuals: u64,
 }
 
-/// Whether a row has rules for the network.
-pub fn picks(set: NetworkSet, default: Option<u16>, network: &Network) -> bool
-    ensures { result ≡ picks set default network.now }
-{
-    match set {
-        NetworkSet::OfLocal => network.kind.is_local(),
-        NetworkSet::OfPhysical => network.kind.is_physical(),
-        NetworkSet::OfFree => network.kind.is_free(),
-        NetworkSet::OfDefault => network.kind.is_physical() && is_default(default, network.id),
-        NetworkSet::OfVirtual => network.kind.is_virtual(),
-        NetworkSet::OfSecure => network.kind.is_secure(),
-        NetworkSet::OfBypass => network.kind.is_bypass(),
-    }
-}
-
-/// The same after the change.
-fn picks_after(touch: Touch, set: NetworkSet, default: Option<u16>, network: &Network) -> bool
-    ensures { result ≡ picks set default (touched touch network.now) }
-{
-    match set {
-        NetworkSet::OfFree => is_free_after(touch, network),
-        NetworkSet::OfLocal
-        | NetworkSet::OfPhysical
-        | NetworkSet::OfDefault
-        | NetworkSet::OfVirtual
-        | NetworkSet::OfSecure
-        | NetworkSet::OfBypass => picks(set, default, network),
-    }
-}
-
-/// The default network.
-pub fn default_network(networks: &Networks, default: Option<u16>) -> Option<&Network>
-    requires { AreNetworks networks.now }
-    ensures { option_copied result ≡ default_among networks.now default }
-{
-    let Some(id) = default else {
-        return None;
-    };
-    let Some(network) = networks.get(id) else {
-        return None;
-    };
-    if network.kind.is_physical() {
-        Some(network)
-    } else {
-        None
-    }
-}
-
-/// How many rules a row has for this part of a network, where the default network has this number of interfaces.
-fn count_in(touch: Touch, part: NetworkPart, links: u64, network: &Network) -> u64
-    requires few { links ≤ 9 }
-    requires network { IsNetwork network.now }
-    ensures value { result ≡ count_in part links (touched touch network.now) }
-    ensures few { result ≤ 9000 }
-{
-    match part {
-        NetworkPart::Whole => 1,
-        NetworkPart::EachInterface => interfaces_after(touch, network),
-        NetworkPart::EachRange => {
-            interfaces_after(touch, network) * network.kind.ranges().len() as u64
-        }
-        NetworkPart::EachDefault => links,
-    }
-}
-
-fn count_at(
-    touch: Touch,
-    set: NetworkSet,
-    part: NetworkPart,
-    default: Option<u16>,
-    links: u64,
-    network: &Network,
-) -> u64
-    requires few { links ≤ 9 }
-    requires network { IsNetwork network.now }
-    ensures value { result ≡ count_at set part default links (touched touch network.now) }
-    ensures few { result ≤ 9000 }
-{
-    if picks_after(touch, set, default, network) {
-        count_in(touch, part, links, network)
-    } else {
-        0
-    }
-}
-
-/// How many rules a row has for all networks.
-fn count_each(
-    touch: Touch,
-    set: NetworkSet,
-    part: NetworkPart,
-    default: Option<u16>,
-    links: u64,
-    networks: &Networks,
-) -> u64
-    requires few { links ≤ 9 }
-    requires networks { AreNetworks networks.now }
-    ensures value { result ≡
-        sum_by (λ n. count_at set part default links (touched touch n)) networks.now }
-    ensures few { result ≤ 9000000 }
-{
-    let mut count = 0;
-    for place in 0..networks.len() {
-        if let Some(network) = networks.at(place) {
-            count += count_at(touch, set, part, default, links, network);
+impl Tallies {
+    pub(crate) fn nothing() -> Tallies
+        ensures { result ≡ record { own = 0; virtuals = 0 } }
+    {
+        Tallies {
+            own: 0,
+            virtuals: 0,
         }
     }
-    count
-}
 
-fn count_row(touch: Touch, per: OnePer, links: u64, ranges: u64, parts: &Parts) -> u64
-    requires few { links ≤ 9 }
-    requires few_ranges { ranges ≤ 1001 }
-    requires formed { IsWellFormed (view_of parts.now) }
-    ensures value { result ≡ count_per_after touch per links ranges (view_of parts.now) }
-    ensures few { result ≤ 9000000 }
-{
-    match per {
-        OnePer::Once => 1,
-        OnePer::EachLockdown => ranges,
-        OnePer::EachPair => parts.pairs.len() as u64,
-        OnePer::EachOf(set, part) => {
-            count_each(touch, set, part, parts.default, links, &parts.networks)
+    // Those of the local network alone.
+    pub(crate) fn at_start() -> Tallies
+        ensures { result ≡ tallies.tallies_of (local_network ∷ []) }
+    {
+        Tallies {
+            own: 1,
+            virtuals: 0,
         }
     }
 }
 
-/// How many interfaces the default network has after the change.
-fn default_links(touch: Touch, parts: &Parts) -> u64
-    requires { IsWellFormed (view_of parts.now) }
-    ensures value { result ≡ links_after touch (view_of parts.now) }
-    ensures few { result ≤ 9 }
+fn rules_in_all(own: u64, virtuals: u64, links: u64, lockdown: u64, pairs: u64) -> u64
+    requires few_rules { tallies.rules_in_all own virtuals links lockdown pairs ≤ most_rules }
+    requires few { virtuals ≤ most_networks }
+    ensures { result ≡ tallies.rules_in_all own virtuals links lockdown pairs }
 {
-    match default_network(&parts.networks, parts.default) {
-        Some(network) => interfaces_after(touch, network),
-        None => 0,
+    own + (virtuals + 1) * links + lockdown + pairs + 2
+}
+
+// How many rules each interface of a physical network has that asks for this permission.
+fn per_link_asking(permission: Permission) -> u64
+    ensures value { result ≡ tallies.per_link_asking permission }
+    ensures few { result ≤ 4 }
+{
+    match permission {
+        Permission::Nothing => 4,
+        Permission::Network | Permission::System => 3,
     }
 }
 
-fn count_rows(touch: Touch, some: &[Row], links: u64, ranges: u64, parts: &Parts) -> u64
-    requires few_rows { length some.now ≤ 22 }
-    requires few { links ≤ 9 }
-    requires few_ranges { ranges ≤ 1001 }
-    requires formed { IsWellFormed (view_of parts.now) }
-    ensures { result ≡ sum_by (λ (row : Row). count_per_after touch row.per links ranges
-        (view_of parts.now)) some.now }
+// How many rules each interface of a network of this kind has.
+pub(crate) fn per_link(kind: &StoredKind) -> u64
+    ensures value { result ≡ tallies.per_link (kind_of kind.now) }
+    ensures few { result ≤ 4 }
 {
-    let mut count = 0;
-    for row in some {
-        count += count_row(touch, row.per, links, ranges, parts);
+    match kind {
+        StoredKind::Local => 2,
+        StoredKind::Physical { permission, .. } => per_link_asking(*permission),
+        StoredKind::Virtual { .. } => 3,
     }
-    count
 }
 
-/// How many rules the state of these parts has after the change, and with so many ranges locked down.
-pub(crate) fn count_after(touch: Touch, ranges: u64, parts: &Parts) -> u64
-    requires few_ranges { ranges ≤ 1001 }
-    requires formed { IsWellFormed (view_of parts.now) }
-    ensures { result ≡ sum_by (λ (row : Row). count_per_after touch row.per
-        (links_after touch (view_of parts.now)) ranges (view_of parts.now)) rows }
+// And how many it has with each range.
+pub(crate) fn per_range(kind: &StoredKind) -> u64
+    ensures value { result ≡ tallies.per_range (kind_of kind.now) }
+    ensures few { result ≤ 3 }
 {
-    count_rows(touch, &ROWS, default_links(touch, parts), ranges, parts)
+    match kind {
+        StoredKind::Local => 0,
+        StoredKind::Physical { .. } => 1,
+        StoredKind::Virtual { .. } => 3,
+    }
 }
 
-/// How many rules the kernel has in each family for the state, beside its own. Takes no memory.
+impl Parts {
+    // How many interfaces the default network has, where this is its id.
+    fn links_by(&self, default: Option<u16>) -> u64
+        requires { IsGood (view_of self.now) }
+        ensures value { result ≡
+            length (links_of (default_among (view_of self.now).networks default)) }
+        ensures few { result ≤ 8 }
+    {
+        match default_network(&self.networks, default) {
+            Some(network) => network.interfaces.len() as u64,
+            None => 0,
+        }
+    }
+
+    // The tallies, which are as small as a state's.
+    pub(crate) fn few_tallies(&self) -> Tallies
+        requires good { IsGood (view_of self.now) }
+        requires tallied { IsTallied self.now }
+        ensures value { result ≡ tallies.tallies_of (view_of self.now).networks }
+        ensures few_rules { result.own ≤ most_rules }
+        ensures few { result.virtuals ≤ most_networks }
+    {
+        self.tallies
+    }
+
+    // Whether the network, which has this id, is the default one.
+    fn is_default(&self, net: u16, network: &StoredNetwork) -> bool
+        ensures { result ≡
+            (is_default (view_of self.now).default net && is_physical (kind_of network.now.kind)) }
+    {
+        is_default(self.default, net) && network.kind.is_physical()
+    }
+
+    /// How many rules the kernel has in each family for the state, beside its own.
+    pub(crate) fn rule_count(&self) -> u64
+        requires good { IsGood (view_of self.now) }
+        requires tallied { IsTallied self.now }
+        ensures value { result ≡ rule_count (view_of self.now) }
+        ensures few { result ≤ most_rules }
+    {
+        let tallies = self.few_tallies();
+        rules_in_all(
+            tallies.own,
+            tallies.virtuals,
+            self.links_by(self.default),
+            self.lockdown.len() as u64,
+            self.pairs.len() as u64,
+        )
+    }
+
+    // How many after the link became an interface of the network.
+    fn rules_with_link(&self, net: u16) -> u64
+        requires good { IsGood (view_of self.now) }
+        requires tallied { IsTallied self.now }
+        ensures { (link : ℕ) → find_link link (view_of self.now).networks ≡ None →
+            result ≡ rule_count (with_net net (with_link link) (view_of self.now)) }
+    {
+        let Some(network) = self.networks.get(net) else {
+            return self.rule_count();
+        };
+        let ranges = network.kind.ranges().len() as u64;
+        let rules = self.rule_count() + per_link(&network.kind) + per_range(&network.kind) * ranges;
+        if self.is_default(net, network) {
+            rules + self.few_tallies().virtuals + 1
+        } else {
+            rules
+        }
+    }
+
+    // How many after so many ranges came to the network.
+    fn rules_with_ranges(&self, net: u16, more: u64) -> u64
+        requires good { IsGood (view_of self.now) }
+        requires tallied { IsTallied self.now }
+        requires few { more ≤ most_ranges }
+        ensures { (rank : ℕ) (ranges : List UidRange) → length ranges ≡ more →
+            result ≡ rule_count (with_net net (with_ranges rank ranges) (view_of self.now)) }
+    {
+        let Some(network) = self.networks.get(net) else {
+            return self.rule_count();
+        };
+        let links = network.interfaces.len() as u64;
+        self.rule_count() + per_range(&network.kind) * (links * more)
+    }
+
+    // How many after the network asks for this permission.
+    fn rules_asking(&self, net: u16, permission: Permission) -> u64
+        requires good { IsGood (view_of self.now) }
+        requires tallied { IsTallied self.now }
+        ensures { result ≡
+            rule_count (with_net net (with_permission permission) (view_of self.now)) }
+    {
+        let Some(network) = self.networks.get(net) else {
+            return self.rule_count();
+        };
+        if !network.kind.is_physical() {
+            return self.rule_count();
+        }
+        let links = network.interfaces.len() as u64;
+        let rules = self.rule_count() + per_link_asking(permission) * links;
+        rules - per_link(&network.kind) * links
+    }
+
+    // How many where this is the id of the default network.
+    fn rules_by_default(&self, default: Option<u16>) -> u64
+        requires good { IsGood (view_of self.now) }
+        requires tallied { IsTallied self.now }
+        ensures { result ≡ rule_count (record (view_of self.now) { default = default }) }
+    {
+        let each = self.few_tallies().virtuals + 1;
+        let rules = self.rule_count() + each * self.links_by(default);
+        rules - each * self.links_by(self.default)
+    }
+
+    /// Whether the state would have more rules after the change than a kernel is given.
+    pub(crate) fn has_too_many_rules(&self, change: &Change) -> bool
+        requires good { IsGood (view_of self.now) }
+        requires tallied { IsTallied self.now }
+        requires fits { Fits change.now (view_of self.now) }
+        ensures { result ≡
+            nat_lt most_rules (rule_count (turned change.now (view_of self.now))) }
+    {
+        match *change {
+            Change::VirtualComes { .. } => {
+                self.rule_count() + self.links_by(self.default) > MOST_RULES
+            }
+            Change::InterfaceComes { net, .. } => self.rules_with_link(net) > MOST_RULES,
+            Change::RangesCome { net, ranges, .. } => {
+                self.rules_with_ranges(net, ranges.len() as u64) > MOST_RULES
+            }
+            Change::DefaultBecomes { default } => self.rules_by_default(default) > MOST_RULES,
+            Change::NetworkPermission { net, permission } => {
+                self.rules_asking(net, permission) > MOST_RULES
+            }
+            Change::LockdownComes { .. } => self.rule_count() + 1 > MOST_RULES,
+            Change::PairComes { .. } => self.rule_count() + 1 > MOST_RULES,
+            // by all others no rule comes
+            Change::Nothing => false,
+            Change::LinkComes { .. } => false,
+            Change::LinkGoes { .. } => false,
+            Change::PhysicalComes { .. } => false,
+            Change::NetworkGoes { .. } => false,
+            Change::InterfaceGoes { .. } => false,
+            Change::RouteComes { .. } => false,
+            Change::RouteGoes { .. } => false,
+            Change::RangesGo { .. } => false,
+            Change::UserPermission { .. } => false,
+            Change::UserForgotten { .. } => false,
+            Change::ProtectAllowed { .. } => false,
+            Change::ProtectDenied { .. } => false,
+            Change::LockdownGoes { .. } => false,
+            Change::PairGoes { .. } => false,
+        }
+    }
+}
+
+/// How many rules the kernel has in each family for the state, beside its own. Takes no memory and goes over nothing.
 pub fn rule_count(state: &State) -> u64
     ensures { result ≡ rule_count state.now }
 {
-    let ranges = state.lockdown().len() as u64;
-    count_after(Touch::Nothing, ranges, &state.parts)
+    state.parts.rule_count()
 }

@@ -1,13 +1,8 @@
-// The routes that commands name, and those of a network's interfaces.
-ghost use Rattle.std.specs.Prelude.{◌≡◌, ◌==◌, length, filter};
-ghost use Rattle.std.specs.List.{list_any};
-ghost use Rattle.fib_table.specs.Table.{has_key};
-ghost use Rattle.networks.specs.Network.{is_keyed_by, routes_by};
+// The routes that commands name.
+ghost use Rattle.std.specs.Prelude.{◌≡◌};
 ghost use Rattle.policy_state.specs.Step as step;
-ghost use Rattle.policy_state.specs.Step.{table_routes_of};
 
 use commands::Way;
-use networks::{LinkRoute, Network};
 use prefixes::{Out, Prefix, Route, same_family};
 
 // Where a route by this link goes.
@@ -67,35 +62,5 @@ pub(crate) fn is_way_of_other_family(prefix: Prefix, way: Way) -> bool
     match way {
         Way::Via(gateway) => !same_family(gateway.family(), prefix.family()),
         Way::Direct | Way::Unreachable | Way::Throw => false,
-    }
-}
-
-fn any_keyed_by(routes: &[LinkRoute], link: u16, key: &Route) -> bool
-    ensures { result ≡ list_any (is_keyed_by link key.now) routes.now }
-{
-    routes.iter().any(|route| route.is_keyed_by(link, key))
-}
-
-// Whether a route of the interface has this key.
-pub(crate) fn has_key(network: &Network, link: u16, key: &Route) -> bool
-    ensures { result ≡ has_key (routes_by link network.now.routes) key.now }
-{
-    any_keyed_by(network.routes.as_slice(), link, key)
-}
-
-fn count_by(routes: &[LinkRoute], link: u16) -> usize
-    ensures { result ≡ length (filter (λ r. r.link == link) routes.now) }
-{
-    routes.iter().filter(|route| route.link == link).count()
-}
-
-// How many routes the table of the interface has.
-pub(crate) fn count_in_table(network: &Network, link: u16) -> usize
-    ensures { result ≡ length (table_routes_of network.now link) }
-{
-    if network.kind.is_local() {
-        network.routes.as_slice().len()
-    } else {
-        count_by(network.routes.as_slice(), link)
     }
 }

@@ -1,33 +1,38 @@
 ghost use Rattle.std.specs.Prelude.{◌≡◌, IfOk};
+ghost use Rattle.network_store.specs.Store.{nets_of};
 ghost use Rattle.policy_state.specs.Good.{IsGood};
+ghost use Rattle.policy_state.specs.Step.{is_protectable};
+ghost use Rattle.policy_state.specs.Users.{permission_of};
 ghost use Rattle.policy_state.specs.View.{StateView, start, link_named, name_of};
 
-use crate::link::Link;
+use crate::count::Tallies;
 use crate::parts::Parts;
 use crate::tether::TetherPair;
+use crate::users::{PermissionTable, ProtectList};
+use fwmark::Permission;
+use link_table::{Link, LinkTable};
 use net_names::Name;
-use networks::Networks;
-use rule_match::LOOPBACK;
+use network_store::StoredNetworks;
 use std::alloc::{AllocError, Global};
 use std::marker::Model;
-use uid_ranges::RangeList;
+use uid_ranges::{Uid, UidRange};
 
 /// What the policy goes by. A state doesn't change: a command makes a new one.
-#[derive(Debug, Drop)]
+#[derive(Drop)]
 pub struct State {
     pub(crate) parts: Parts,
 }
 
 impl Model for State {
     ghost use Rattle.policy_state.specs.Good.{IsGood};
-    ghost use Rattle.policy_state.specs.Parts.{view_of};
+    ghost use Rattle.policy_state.specs.Parts.{view_of, IsTallied};
     ghost use Rattle.policy_state.specs.View.{StateView};
 
     ghost Value = { StateView };
 
     ghost view = { λ s. view_of s.parts };
 
-    ghost invariant = { λ s. IsGood (view_of s.parts) };
+    ghost invariant = { λ s. IsGood (view_of s.parts) × IsTallied s.parts };
 }
 
 impl State {
@@ -35,23 +40,16 @@ impl State {
     pub fn start(alloc: Global) -> Result<State, AllocError>
         ensures { IfOk result (λ state. state ≡ start) }
     {
-        let Some(name) = Name::from_bytes(b"lo") else {
-            return Err(AllocError);
-        };
-        let mut links = Vec::new(alloc);
-        links.push(Link {
-            name,
-            index: LOOPBACK,
-        })?;
         let parts = Parts {
             alloc,
-            links,
-            networks: Networks::start(alloc)?,
-            permissions: Vec::new(alloc),
-            protectable: Vec::new(alloc),
-            lockdown: RangeList::empty(alloc),
+            links: LinkTable::start(alloc)?,
+            networks: StoredNetworks::start(alloc)?,
+            permissions: PermissionTable::empty(alloc),
+            protectable: ProtectList::empty(alloc),
+            lockdown: Vec::new(alloc),
             pairs: Vec::new(alloc),
             default: None,
+            tallies: Tallies::at_start(),
         };
         Ok(State { parts })
     }
@@ -60,16 +58,14 @@ impl State {
     pub fn link_named(&self, name: &Name) -> Option<u16>
         ensures { result ≡ link_named self.now name.now }
     {
-        let link = self.links().iter().find(|link| link.name == *name)?;
-        Some(link.index)
+        self.parts.links.index_of(name)
     }
 
     /// The name of the link of this index.
     pub fn name_of(&self, index: u16) -> Option<Name>
         ensures { result ≡ name_of self.now index }
     {
-        let link = self.links().iter().find(|link| link.index == index)?;
-        Some(link.name)
+        self.parts.links.name_of(index)
     }
 
     /// The links, in the order of their addition.
@@ -80,19 +76,33 @@ impl State {
     }
 
     /// The networks, in the order of their creation.
-    pub fn networks(&self) -> &Networks
-        ensures value { result.now ≡ self.now.networks }
+    pub fn networks(&self) -> &StoredNetworks
+        ensures value { nets_of result.now ≡ self.now.networks }
         ensures good { IsGood self.now }
     {
         &self.parts.networks
     }
 
+    /// The permission that was set for the user.
+    pub fn permission_of(&self, uid: Uid) -> Option<Permission>
+        ensures { result ≡ permission_of self.now uid }
+    {
+        self.parts.permissions.get(uid)
+    }
+
+    /// Whether the user is one of those who may protect their sockets from VPNs.
+    pub fn is_protectable(&self, uid: Uid) -> bool
+        ensures { result ≡ is_protectable self.now uid }
+    {
+        self.parts.protectable.has(uid)
+    }
+
     /// The ranges that are locked down, in the order of their addition.
-    pub fn lockdown(&self) -> &RangeList
+    pub fn lockdown(&self) -> &[UidRange]
         ensures value { result.now ≡ self.now.lockdown }
         ensures good { IsGood self.now }
     {
-        &self.parts.lockdown
+        self.parts.lockdown.as_slice()
     }
 
     /// The tether pairs, in the order of their addition.

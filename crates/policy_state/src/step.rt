@@ -1,12 +1,34 @@
 // A state's way to the next one.
 ghost use Rattle.std.specs.Prelude.{◌≡◌, ◌↔◌, None, Some, Err, IfOk, OnOk};
+ghost use Rattle.policy_state.specs.Change.{Fits, turned};
 ghost use Rattle.policy_state.specs.Good.{IsGood};
+ghost use Rattle.policy_state.specs.Parts.{view_of, IsTallied};
 ghost use Rattle.policy_state.specs.Step.{refusal, changed};
 
+use crate::change::Change;
 use crate::fault::StepFault;
+use crate::parts::Parts;
 use crate::state::State;
 use commands::Command;
 use net_names::Code;
+use std::alloc::AllocError;
+
+impl Parts {
+    // The parts after the change.
+    fn turned_by(&self, change: &Change) -> Result<Parts, AllocError>
+        requires good { IsGood (view_of self.now) }
+        requires good_after { IsGood (turned change.now (view_of self.now)) }
+        requires tallied { IsTallied self.now }
+        requires fits { Fits change.now (view_of self.now) }
+        ensures view { IfOk result (λ parts. view_of parts ≡ turned change.now (view_of self.now)) }
+        ensures tallied { IfOk result IsTallied }
+    {
+        let mut parts = self.copy()?;
+        parts.make_room(change)?;
+        parts.turn(change);
+        Ok(parts)
+    }
+}
 
 impl State {
     /// The state after the command.
@@ -19,12 +41,13 @@ impl State {
         ensures refused { (code : Code) → (result ≡ Err (StepFault.Refused code)) ↔
             (refusal self.now command.now ≡ Some code) }
     {
-        let _parts = &self.parts;
-        if let Some(code) = self.refusal_of(command) {
-            return Err(StepFault::Refused { code });
-        }
+        let parts = &self.parts;
+        let change = match parts.accept(command) {
+            Ok(change) => change,
+            Err(code) => return Err(StepFault::Refused { code }),
+        };
         command.fits_types();
-        match self.changed_by(command) {
+        match parts.turned_by(&change) {
             Ok(parts) => Ok(State { parts }),
             Err(fault) => Err(StepFault::Memory(fault)),
         }

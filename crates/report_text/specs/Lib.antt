@@ -6,3 +6,4 @@ pub mod RuleTexts
 pub mod RouteTexts
 pub mod Lists
 pub mod NetworkTexts
+pub mod SocketTexts

@@ -16,51 +16,43 @@ ghost use Rattle.report_text.specs.NetworkTexts.{
   security_text,
 };
 ghost use Rattle.word_text.specs.Grammar.{permission_text};
-ghost use Rattle.std.specs.Prelude.{◌≡◌, ◌<◌, ◌∷◌, ◌++◌, Some, codes, drop, flat_map, length, slice_get};
+ghost use Rattle.network_store.specs.Store.{nets_of};
+ghost use Rattle.network_store.specs.Stored as stored;
+ghost use Rattle.std.specs.List.{join_with_byte};
+ghost use Rattle.std.specs.Prelude.{◌≡◌, ◌<◌, ◌++◌, Some, codes, flat_map, length, map, slice_get};
 
 use crate::link::write_link;
 use fwmark::Permission;
-use networks::{Kind, Network, Networks};
+use network_store::{StoredKind, StoredNetwork, StoredNetworks};
 use number_text::{append_byte, append_bytes, write_decimal};
 use policy_state::State;
 use std::alloc::AllocError;
-use uid_ranges::{Ranked, RankedList};
+use uid_ranges::Ranked;
 use word_text::{write_permission, write_range};
 
-fn write_next_name(state: &State, link: u16, out: &mut Vec<u8>) -> Result<(), AllocError>
-    ensures { Appends out.old out.new result (comma ∷ link_text state.now link) }
+// Appends the names of links with a comma between each two.
+fn write_joined_names(state: &State, links: &[u16], out: &mut Vec<u8>) -> Result<(), AllocError>
+    ensures { Appends out.old out.new result
+        (join_with_byte comma (map (link_text state.now) links.now)) }
 {
-    append_byte(b',', out)?;
-    write_link(state, link, out)
-}
-
-fn write_next_names(state: &State, links: &[u16], out: &mut Vec<u8>) -> Result<(), AllocError>
-    ensures { Appends out.old out.new result (flat_map (λ link. comma ∷ link_text state.now link)
-        links.now) }
-{
-    for link in links {
-        write_next_name(state, *link, out)?;
+    match links {
+        [] => Ok(()),
+        [link] => write_link(state, *link, out),
+        [link, more @ ..] => {
+            write_link(state, *link, out)?;
+            append_byte(b',', out)?;
+            write_joined_names(state, more, out)
+        }
     }
-    Ok(())
 }
 
 fn write_names(state: &State, links: &[u16], out: &mut Vec<u8>) -> Result<(), AllocError>
     ensures { Appends out.old out.new result (names_text state.now links.now) }
 {
-    match links {
-        [] => append_byte(b'-', out),
-        [first, others @ ..] => {
-            write_link(state, *first, out)?;
-            write_next_names(state, others, out)
-        }
+    if links.is_empty() {
+        return append_byte(b'-', out);
     }
-}
-
-fn range_at(ranges: &RankedList, place: usize) -> Ranked
-    requires { place < length ranges.now }
-    ensures { slice_get ranges.now place ≡ Some result }
-{
-    ranges.at(place).unwrap()
+    write_joined_names(state, links, out)
 }
 
 fn write_rank(rank: u8, out: &mut Vec<u8>) -> Result<(), AllocError>
@@ -80,33 +72,29 @@ fn write_ranked(range: Ranked, out: &mut Vec<u8>) -> Result<(), AllocError>
     write_rank(range.rank, out)
 }
 
-fn write_next_range(range: Ranked, out: &mut Vec<u8>) -> Result<(), AllocError>
-    ensures { Appends out.old out.new result (comma ∷ ranked_text range) }
-{
-    append_byte(b',', out)?;
-    write_ranked(range, out)
-}
-
-fn write_next_ranges(ranges: &RankedList, out: &mut Vec<u8>) -> Result<(), AllocError>
+// Appends ranges with a comma between each two.
+fn write_joined_ranges(ranges: &[Ranked], out: &mut Vec<u8>) -> Result<(), AllocError>
     ensures { Appends out.old out.new result
-        (flat_map (λ range. comma ∷ ranked_text range) (drop 1 ranges.now)) }
+        (join_with_byte comma (map ranked_text ranges.now)) }
 {
-    for place in 1..ranges.len() {
-        write_next_range(range_at(ranges, place), out)?;
-    }
-    Ok(())
-}
-
-fn write_ranges(ranges: &RankedList, out: &mut Vec<u8>) -> Result<(), AllocError>
-    ensures { Appends out.old out.new result (ranges_text ranges.now) }
-{
-    match ranges.at(0) {
-        None => append_byte(b'-', out),
-        Some(first) => {
-            write_ranked(first, out)?;
-            write_next_ranges(ranges, out)
+    match ranges {
+        [] => Ok(()),
+        [range] => write_ranked(*range, out),
+        [range, more @ ..] => {
+            write_ranked(*range, out)?;
+            append_byte(b',', out)?;
+            write_joined_ranges(more, out)
         }
     }
+}
+
+fn write_ranges(ranges: &[Ranked], out: &mut Vec<u8>) -> Result<(), AllocError>
+    ensures { Appends out.old out.new result (ranges_text ranges.now) }
+{
+    if ranges.is_empty() {
+        return append_byte(b'-', out);
+    }
+    write_joined_ranges(ranges, out)
 }
 
 fn write_security(secure: bool, out: &mut Vec<u8>) -> Result<(), AllocError>
@@ -119,7 +107,7 @@ fn write_security(secure: bool, out: &mut Vec<u8>) -> Result<(), AllocError>
     }
 }
 
-fn write_virtual(secure: bool, users: &RankedList, out: &mut Vec<u8>) -> Result<(), AllocError>
+fn write_virtual(secure: bool, users: &[Ranked], out: &mut Vec<u8>) -> Result<(), AllocError>
     ensures { Appends out.old out.new result
         (codes "virtual " ++ security_text secure ++ codes " users " ++ ranges_text users.now) }
 {
@@ -139,10 +127,10 @@ fn write_default(is_default: bool, out: &mut Vec<u8>) -> Result<(), AllocError>
     }
 }
 
-fn write_apps(apps: &RankedList, out: &mut Vec<u8>) -> Result<(), AllocError>
+fn write_apps(apps: &[Ranked], out: &mut Vec<u8>) -> Result<(), AllocError>
     ensures { Appends out.old out.new result (apps_text apps.now) }
 {
-    if apps.len() == 0 {
+    if apps.is_empty() {
         return Ok(());
     }
     append_bytes(b" apps ", out)?;
@@ -152,7 +140,7 @@ fn write_apps(apps: &RankedList, out: &mut Vec<u8>) -> Result<(), AllocError>
 fn write_physical(
     permission: Permission,
     is_default: bool,
-    apps: &RankedList,
+    apps: &[Ranked],
     out: &mut Vec<u8>,
 ) -> Result<(), AllocError>
     ensures { Appends out.old out.new result (codes "physical " ++ permission_text permission
@@ -164,13 +152,15 @@ fn write_physical(
     write_apps(apps, out)
 }
 
-fn write_kind(kind: &Kind, is_default: bool, out: &mut Vec<u8>) -> Result<(), AllocError>
-    ensures { Appends out.old out.new result (kind_text is_default kind.now) }
+fn write_kind(kind: &StoredKind, is_default: bool, out: &mut Vec<u8>) -> Result<(), AllocError>
+    ensures { Appends out.old out.new result (kind_text is_default (stored.kind_of kind.now)) }
 {
     match kind {
-        Kind::Local => append_bytes(b"local", out),
-        Kind::Physical { permission, apps } => write_physical(*permission, is_default, apps, out),
-        Kind::Virtual { secure, users } => write_virtual(*secure, users, out),
+        StoredKind::Local => append_bytes(b"local", out),
+        StoredKind::Physical { permission, apps } => {
+            write_physical(*permission, is_default, apps.as_slice(), out)
+        }
+        StoredKind::Virtual { secure, users } => write_virtual(*secure, users.as_slice(), out),
     }
 }
 
@@ -184,8 +174,12 @@ fn is_default(state: &State, id: u16) -> bool
 }
 
 /// Appends a network, without spaces before it and without a line feed.
-pub fn write_network(state: &State, network: &Network, out: &mut Vec<u8>) -> Result<(), AllocError>
-    ensures { Appends out.old out.new result (network_text state.now network.now) }
+pub fn write_network(
+    state: &State,
+    network: &StoredNetwork,
+    out: &mut Vec<u8>,
+) -> Result<(), AllocError>
+    ensures { Appends out.old out.new result (network_text state.now (stored.net_of network.now)) }
 {
     write_decimal(u64::from(network.id), out)?;
     append_byte(b' ', out)?;
@@ -194,23 +188,28 @@ pub fn write_network(state: &State, network: &Network, out: &mut Vec<u8>) -> Res
     write_names(state, network.interfaces.as_slice(), out)
 }
 
-fn write_line(state: &State, network: &Network, out: &mut Vec<u8>) -> Result<(), AllocError>
-    ensures { Appends out.old out.new result (network_line state.now network.now) }
+fn write_line(state: &State, network: &StoredNetwork, out: &mut Vec<u8>) -> Result<(), AllocError>
+    ensures { Appends out.old out.new result (network_line state.now (stored.net_of network.now)) }
 {
     append_bytes(b"  ", out)?;
     write_network(state, network, out)?;
     append_byte(b'\n', out)
 }
 
-fn network_at(networks: &Networks, place: usize) -> &Network
-    requires { place < length networks.now }
-    ensures { slice_get networks.now place ≡ Some result.now }
+fn network_at(networks: &StoredNetworks, place: usize) -> &StoredNetwork
+    requires { place < length (nets_of networks.now) }
+    ensures { slice_get (nets_of networks.now) place ≡ Some (stored.net_of result.now) }
 {
     networks.at(place).unwrap()
 }
 
-fn write_lines(state: &State, networks: &Networks, out: &mut Vec<u8>) -> Result<(), AllocError>
-    ensures { Appends out.old out.new result (flat_map (network_line state.now) networks.now) }
+fn write_lines(
+    state: &State,
+    networks: &StoredNetworks,
+    out: &mut Vec<u8>,
+) -> Result<(), AllocError>
+    ensures { Appends out.old out.new result
+        (flat_map (network_line state.now) (nets_of networks.now)) }
 {
     for place in 0..networks.len() {
         write_line(state, network_at(networks, place), out)?;

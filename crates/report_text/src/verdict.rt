@@ -1,4 +1,4 @@
-ghost use Rattle.std.specs.Prelude.{◌+◌, ◌≤◌, vec_capacity, vec_len, IsOk};
+ghost use Rattle.std.specs.Prelude.{◌+◌, ◌≤◌, vec_capacity, vec_len, length, IsOk, OnOk};
 ghost use Rattle.number_text.specs.Appends.{Appends};
 ghost use Rattle.report_text.specs.Verdicts.{gateway_text, verdict_text};
 ghost use Rattle.rule_match.specs.declared.verdict.Verdict.TheVariants as verdict;
@@ -31,6 +31,8 @@ fn write_out(
 ) -> Result<(), AllocError>
     ensures text { Appends out.old out.new result
         (verdict_text state.now (verdict.Out link gateway)) }
+    ensures short { OnOk result
+        (length (verdict_text state.now (verdict.Out link gateway)) ≤ 64) }
     ensures room { vec_len out.old + 64 ≤ vec_capacity out.old → IsOk result }
 {
     append_bytes(b"out ", out)?;
@@ -41,6 +43,7 @@ fn write_out(
 /// Appends where a packet goes, without a line feed.
 pub fn write_verdict(state: &State, verdict: &Verdict, out: &mut Vec<u8>) -> Result<(), AllocError>
     ensures text { Appends out.old out.new result (verdict_text state.now verdict.now) }
+    ensures short { OnOk result (length (verdict_text state.now verdict.now) ≤ 64) }
     ensures room { vec_len out.old + 64 ≤ vec_capacity out.old → IsOk result }
 {
     match *verdict {

@@ -129,6 +129,16 @@ impl RouteSlots {
         }
     }
 
+    // The same routes, in the same slots.
+    pub(crate) fn copy(&self) -> Result<RouteSlots, AllocError>
+        ensures { IfOk result (λ copy. copy.routes ≡ self.now.routes) }
+    {
+        Ok(RouteSlots {
+            slots: Vec::from_slice(*self.slots.allocator(), self.slots.as_slice())?,
+            places: self.places.clone()?,
+        })
+    }
+
     // The routes, in the order of their addition.
     pub(crate) fn iter(&self) -> Iter<'_>
         ensures routes { result ≡ self.now.routes }

@@ -1,4 +1,4 @@
-ghost use Rattle.std.specs.Prelude.{◌≡◌, ◌≤◌, ◌<◌, ◌+◌, ◌++◌, ◌∷◌, ◌==◌, [], true, false, filter, not, length, nat_eq, unwrap_or, find, OnOk};
+ghost use Rattle.std.specs.Prelude.{◌≡◌, ◌≤◌, ◌<◌, ◌+◌, ◌++◌, ◌∷◌, ◌==◌, [], true, false, filter, not, length, nat_eq, unwrap_or, find, OnOk, IfOk};
 ghost use Rattle.std.specs.List.{list_any};
 ghost use Rattle.networks.specs.Network.{is_keyed_by, routes_by};
 ghost use Rattle.route_store.specs.Keys.{are_apart};
@@ -52,6 +52,16 @@ impl RouteStore {
             routes: RouteSlots::empty(alloc),
             counts: IndexMap::new(alloc),
         }
+    }
+
+    /// The same routes.
+    pub fn copy(&self) -> Result<RouteStore, AllocError>
+        ensures { IfOk result (λ store. store.routes ≡ self.now.routes) }
+    {
+        Ok(RouteStore {
+            routes: self.routes.copy()?,
+            counts: self.counts.clone()?,
+        })
     }
 
     /// The routes of all interfaces, in the order of their addition.

@@ -3,6 +3,7 @@
 #![tactic(auto)]
 
 mod difference;
+mod going_routes;
 mod laws;
 mod requests;
 mod routes;

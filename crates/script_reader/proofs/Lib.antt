@@ -12,3 +12,4 @@ pub mod Joined
 pub mod Sayable
 pub mod Steps
 pub mod PrintedLines
+mod UsersParts

@@ -19,7 +19,7 @@ use Rattle.script_reader.specs.declared.form.TheConstants.{FORMS}
 use Rattle.script_reader.specs.declared.words.Words.{Words}
 use Rattle.script_reader.proofs.Farthest.{IsFarthest, one_more}
 use Rattle.word_text.proofs.Tests.{both_true}
-use Rattle.word_text.specs.Grammar.{Kind, AreOf, Count, Fits, What, addr, count, index, link, literal, mark, named, net, other, permission, prefix, range, ranges, table, uid, valued}
+use Rattle.word_text.specs.Grammar.{Kind, AreOf, Count, Fits, What, addr, count, index, link, literal, mark, named, net, other, permission, prefix, range, ranges, rank, table, uid, valued}
 use Rattle.word_text.specs.Kinds.{kind_of, kinds_in}
 use Rattle.word_text.specs.declared.kind.Kind.{Kind as Coded}
 
@@ -161,6 +161,7 @@ reaches_whole kinds place from after all reaches ends =
 abbrev same_count : Count → Count → Bool
 same_count index index = true
 same_count net net = true
+same_count rank rank = true
 same_count table table = true
 same_count _ _ = false
 
@@ -185,6 +186,7 @@ same_kind _ _ = false
 are_same_count : (one next : Count) → same_count one next ≡ true → one ≡ next
 are_same_count index index e = refl
 are_same_count net net e = refl
+are_same_count rank rank e = refl
 are_same_count table table e = refl
 are_same_count _ _ e = cc
 
@@ -230,7 +232,7 @@ all_shared : are_shared [] FORMS ≡ true
 all_shared = refl
 
 abbrev first_entry : Entry
-first_entry = record { form = form.LinkAdd; shared = 0 }
+first_entry = record { form = form.Packet; shared = 0 }
 
 shared_at : (before : List Kind) (entries : List Entry) (place : ℕ) → are_shared before entries ≡ true →
     Agree (get_or entries (suc place) first_entry).shared (kinds_of (get_or entries place first_entry).form) (kinds_of (get_or entries (suc place) first_entry).form)
@@ -286,7 +288,7 @@ tried_more cursor place reached next farthest most within tried is stop =
     let at_form = get_or-map {A = Entry} {B = Form} (λ entry. entry.form) FORMS place first_entry in
     let there = stops_there next.count (kinds_at_entry place) (words_left cursor) (end_of cursor) next.after.column stop.fit
     (subst (λ (ws : List Word). StopsHere (drop next.count (kinds_at_entry place)) ws (end_of cursor) next.after.column) stop.after.words stop.stops) in
-    let more = one_more script cursor place farthest next.after.column most form.LinkAdd within is
+    let more = one_more script cursor place farthest next.after.column most form.Packet within is
     (subst (λ (f : Form). Stops (kinds_of f) (words_left cursor) (end_of cursor) next.after.column) (sym at_form) there) (tried.each, tried.one) in
     record {
       each = more.0;

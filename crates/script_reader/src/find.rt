@@ -5,7 +5,7 @@ ghost use Rattle.word_text.specs.Grammar.{AreOf};
 ghost use Rattle.word_text.specs.Kinds.{kinds_in};
 ghost use Rattle.script_reader.specs.Words.{texts};
 
-use crate::form::{FORMS, Form};
+use crate::form::{Form, entries};
 use crate::words::Words;
 use word_text::Kind;
 
@@ -75,7 +75,7 @@ pub fn find(words: Words<'_>) -> Result<Form, u32>
         count: 0,
         after: words,
     };
-    for entry in FORMS {
+    for entry in entries() {
         if entry.shared > reached.count {
             continue;
         }

@@ -13,6 +13,6 @@ mod words;
 
 pub use fault::LineFault;
 pub use laws::{canonical_text, one_column, one_line};
-pub use line::{Line, ShowLine, TraceLine};
+pub use line::{Line, ShowLine, SocketLine, TraceLine};
 pub use print::print_line;
 pub use read::read_line;

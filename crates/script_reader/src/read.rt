@@ -16,9 +16,10 @@ use crate::form::Form;
 use crate::line::Line;
 use crate::say::say;
 use crate::words::Words;
+use commands::Ranges;
 use std::alloc::{AllocError, Global};
 use uid_ranges::UidRange;
-use word_text::{Kind, Ranges, Values, read_ranges};
+use word_text::{Kind, Values, read_ranges};
 
 /// The most bytes of a line.
 const LINE_LIMIT: usize = 512;

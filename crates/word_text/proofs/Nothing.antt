@@ -16,6 +16,7 @@ with_first link user users dest = record {
   other = link;
   index = 0;
   net = 0;
+  rank = 0;
   table = 0;
   permission = Nothing;
   uid = user;

@@ -8,7 +8,7 @@ use Rattle.number_text.proofs.Spelled.{SpellsDecimal-decimal}
 use Rattle.prefixes.specs.declared.addr.Addr.TheVariants as address
 use Rattle.prefixes.specs.declared.prefix.Prefix.{Prefix}
 use Rattle.uid_ranges.specs.declared.range.UidRange.{UidRange}
-use Rattle.word_text.specs.Grammar.{Count, Counts, Kind, Meant, What, ValueOf, IsSpelled, SpellsOut, index, net, table, count, literal, named, permission, uid, mark, range, ranges, addr, prefix, valued}
+use Rattle.word_text.specs.Grammar.{Count, Counts, Kind, Meant, What, ValueOf, IsSpelled, SpellsOut, index, net, rank, table, count, literal, named, permission, uid, mark, range, ranges, addr, prefix, valued}
 use Rattle.word_text.specs.Slots.{ordered, root, whole}
 use Rattle.word_text.specs.Texts.{mark_text, range_text}
 use Rattle.word_text.proofs.Written.{SpellsMark-text, SpellsRange-text, SpellsUid-decimal}
@@ -17,6 +17,7 @@ use Rattle.word_text.proofs.Written.{SpellsMark-text, SpellsRange-text, SpellsUi
 least : (what : Count) → (number : ℕ) × Counts what number × (number < 2 ^ 64)
 least index = (2, (omega arith, omega arith), omega arith)
 least net = (0, omega arith, omega arith)
+least rank = (0, omega arith, omega arith)
 least table = (0, omega arith, omega arith)
 
 abbrev all_root : UidRange

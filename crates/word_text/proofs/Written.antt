@@ -7,12 +7,13 @@ use Rattle.number_text.specs.Numbers.{SpellsDecimal, hexadecimal}
 use Rattle.uid_ranges.specs.declared.range.Uid.{Uid}
 use Rattle.uid_ranges.specs.declared.range.UidRange.{UidRange}
 use Rattle.word_text.specs.Texts.{IsMeantWithin, IsWithin, mark_text, meant_text, range_text, ranges_text, value_text}
-use Rattle.word_text.specs.Grammar.{Count, Counts, Kind, Meant, SpellsOut, ValueOf, What, IsSpelled, addr, count, literal, mark, named, permission, prefix, range, ranges, uid, valued, SpellsMark, SpellsRange, SpellsRanges, SpellsUid, index, net, table}
+use Rattle.word_text.specs.Grammar.{Count, Counts, Kind, Meant, SpellsOut, ValueOf, What, IsSpelled, addr, count, literal, mark, named, permission, prefix, range, ranges, uid, valued, SpellsMark, SpellsRange, SpellsRanges, SpellsUid, index, net, rank, table}
 
 -- what is counted is below 2 ^ 32
 count_fits : (what : Count) (number : ℕ) → Counts what number → number ≤ 4294967295
 count_fits index number counts = let most : number ≤ 65535 = counts.1 in omega arith
 count_fits net number counts = let most : number ≤ 65535 = counts in omega arith
+count_fits rank number counts = let most : number ≤ 99 = counts in omega arith
 count_fits table number counts = counts
 
 pub SpellsCount-text : (what : Count) (number : ℕ) → Counts what number → SpellsDecimal (decimal number) number × Counts what number

@@ -10,16 +10,18 @@ use Rattle.prefixes.specs.declared.prefix.Prefix.{Prefix}
 use Rattle.uid_ranges.specs.declared.range.Uid.{Uid}
 use Rattle.uid_ranges.specs.declared.range.UidRange.{UidRange}
 
--- what a decimal number is for: the index of a link, the id of a network, or the number of a table
+-- what a decimal number is for: the index of a link, the id of a network, the rank of ranges, or the number of a table
 pub data Count : Type 0 where
   index : Count
   net : Count
+  rank : Count
   table : Count
 
 -- the numbers of each
 abbrev pub Counts : Count → ℕ → Type 0
 Counts index number = (2 ≤ number) × (number ≤ 65535)
 Counts net number = number ≤ 65535
+Counts rank number = number ≤ 99
 Counts table number = number ≤ 4294967295
 
 -- what a name is for: the link of a line, or what else a line with two names names

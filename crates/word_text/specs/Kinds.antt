@@ -4,7 +4,7 @@ use Rattle.std.specs.declared.alloc.AllocError.{AllocError}
 use Rattle.uid_ranges.specs.declared.range.UidRange.{UidRange}
 use Rattle.word_text.specs.declared.kind.Kind.{Kind as Coded}
 use Rattle.word_text.specs.declared.kind.Kind.TheVariants as coded
-use Rattle.word_text.specs.Grammar.{Kind, Meant, SpellsOut, SpellsRanges, What, addr, count, index, link, literal, mark, named, net, other, permission, prefix, range, ranges, table, uid, valued}
+use Rattle.word_text.specs.Grammar.{Kind, Meant, SpellsOut, SpellsRanges, What, addr, count, index, link, literal, mark, named, net, other, permission, prefix, range, ranges, rank, table, uid, valued}
 
 abbrev pub kind_of : Coded → Kind
 kind_of (coded.Word text) = literal text.now
@@ -12,6 +12,7 @@ kind_of coded.Name = valued (named link)
 kind_of coded.Other = valued (named other)
 kind_of coded.Index = valued (count index)
 kind_of coded.Net = valued (count net)
+kind_of coded.Rank = valued (count rank)
 kind_of coded.Table = valued (count table)
 kind_of coded.Permission = valued permission
 kind_of coded.Uid = valued uid

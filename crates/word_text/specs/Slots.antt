@@ -6,7 +6,7 @@ use Rattle.prefixes.specs.declared.addr.Addr.TheVariants as address
 use Rattle.uid_ranges.specs.declared.range.Uid.{Uid}
 use Rattle.uid_ranges.specs.declared.range.UidRange.{UidRange}
 use Rattle.word_text.specs.declared.values.Values.{Values as Slots}
-use Rattle.word_text.specs.Grammar.{Kind, Meant, What, IsSpelled, ValueOf, Values, addr, count, index, link, literal, mark, named, net, other, permission, prefix, range, ranges, table, uid, valued}
+use Rattle.word_text.specs.Grammar.{Kind, Meant, What, IsSpelled, ValueOf, Values, addr, count, index, link, literal, mark, named, net, other, permission, prefix, range, ranges, rank, table, uid, valued}
 use Rattle.std.proofs.Common.{arith, refl}
 
 pub low : 0 < 4294967295
@@ -28,6 +28,7 @@ nothing = record {
   other = codes "lo";
   index = 0;
   net = 0;
+  rank = 0;
   table = 0;
   permission = Nothing;
   uid = root;
@@ -41,6 +42,7 @@ nothing = record {
 abbrev pub put_meant : (what : What) → Meant what → Slots → Slots
 put_meant (count index) value v = record v { index = value }
 put_meant (count net) value v = record v { net = value }
+put_meant (count rank) value v = record v { rank = value }
 put_meant (count table) value v = record v { table = value }
 put_meant (named link) value v = record v { name = value }
 put_meant (named other) value v = record v { other = value }
@@ -60,6 +62,7 @@ put (valued what) value v = put_meant what value v
 abbrev pub slot_meant : (what : What) → Slots → List UidRange → Meant what
 slot_meant (count index) v list = v.index
 slot_meant (count net) v list = v.net
+slot_meant (count rank) v list = v.rank
 slot_meant (count table) v list = v.table
 slot_meant (named link) v list = v.name
 slot_meant (named other) v list = v.other

@@ -17,6 +17,9 @@ index = of.valued (of.count of.index)
 abbrev pub net : of.Kind
 net = of.valued (of.count of.net)
 
+abbrev pub rank : of.Kind
+rank = of.valued (of.count of.rank)
+
 abbrev pub table : of.Kind
 table = of.valued (of.count of.table)
 

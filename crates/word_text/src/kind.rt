@@ -5,7 +5,7 @@ ghost use Rattle.word_text.specs.Kinds.{kind_of};
 use crate::ranges::are_ranges;
 use crate::read::{
     read_address, read_destination, read_index, read_mark, read_name, read_net, read_permission,
-    read_range, read_table, read_uid,
+    read_range, read_rank, read_table, read_uid,
 };
 
 /// What stands in the place of a word: the word itself, or a value that `Values` keeps by this name.
@@ -17,6 +17,7 @@ pub enum Kind {
     Other,
     Index,
     Net,
+    Rank,
     Table,
     Permission,
     Uid,
@@ -38,6 +39,7 @@ impl Kind {
             Kind::Other => read_name(word).is_some(),
             Kind::Index => read_index(word).is_some(),
             Kind::Net => read_net(word).is_some(),
+            Kind::Rank => read_rank(word).is_some(),
             Kind::Table => read_table(word).is_some(),
             Kind::Permission => read_permission(word).is_some(),
             Kind::Uid => read_uid(word).is_some(),

@@ -10,10 +10,10 @@ mod write;
 
 pub use kind::Kind;
 pub use laws::{one_value, what_is_written};
-pub use ranges::{Ranges, are_ranges, read_ranges};
+pub use ranges::{are_ranges, read_ranges};
 pub use read::{
     read_address, read_destination, read_index, read_mark, read_name, read_net, read_permission,
-    read_range, read_table, read_uid,
+    read_range, read_rank, read_table, read_uid,
 };
 pub use values::Values;
 pub use write::{

@@ -5,42 +5,8 @@ ghost use Rattle.word_text.specs.Kinds.{ReadsRanges};
 
 use crate::read::read_range;
 use addr_text::split_at_byte;
-use std::alloc::{AllocError, Global};
-use std::marker::Model;
+use std::alloc::AllocError;
 use uid_ranges::UidRange;
-
-/// Ranges of UIDs, as a line names them.
-#[derive(Drop)]
-pub struct Ranges {
-    list: Vec<UidRange>,
-}
-
-impl Model for Ranges {
-    ghost use Rattle.std.specs.Prelude.{List};
-    ghost use Rattle.uid_ranges.specs.declared.range.UidRange.{UidRange};
-
-    ghost Value = { List UidRange };
-
-    ghost view = { λ ranges. ranges.list.items };
-}
-
-impl Ranges {
-    ghost use Rattle.std.specs.Prelude.{◌≡◌, []};
-
-    /// These ranges.
-    pub fn of(list: Vec<UidRange>) -> Ranges
-        ensures { result ≡ list.items }
-    {
-        Ranges { list }
-    }
-
-    /// The ranges.
-    pub fn as_slice(&self) -> &[UidRange]
-        ensures { result.now ≡ self.now }
-    {
-        self.list.as_slice()
-    }
-}
 
 /// Whether the word spells ranges.
 pub fn are_ranges(word: &[u8]) -> bool

@@ -1,7 +1,7 @@
 // The values that a word can spell.
 ghost use Rattle.std.specs.Prelude.{◌≡◌, ◌++◌, ℕ, List, ◌<◌, ◌^◌, codes, IfSome, IfNone, MatchOption};
 ghost use Rattle.number_text.specs.Numbers.{SpellsHexadecimal};
-ghost use Rattle.word_text.specs.Grammar.{addr, count, index, link, mark, named, net, permission, prefix, range, table, uid};
+ghost use Rattle.word_text.specs.Grammar.{addr, count, index, link, mark, named, net, permission, prefix, range, rank, table, uid};
 ghost use Rattle.word_text.specs.Kinds.{Gives};
 
 use addr_text::{read_addr, read_prefix, split_at_byte};
@@ -27,6 +27,13 @@ pub fn read_net(word: &[u8]) -> Option<u16>
     ensures { Gives (count net) word.now result }
 {
     Some(read_decimal(word, 65535)? as u16)
+}
+
+/// The rank of ranges that the word spells.
+pub fn read_rank(word: &[u8]) -> Option<u8>
+    ensures { Gives (count rank) word.now result }
+{
+    Some(read_decimal(word, 99)? as u8)
 }
 
 /// The number of a table that the word spells.

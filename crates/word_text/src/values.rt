@@ -5,7 +5,7 @@ use crate::kind::Kind;
 use crate::ranges::are_ranges;
 use crate::read::{
     read_address, read_destination, read_index, read_mark, read_name, read_net, read_permission,
-    read_range, read_table, read_uid,
+    read_range, read_rank, read_table, read_uid,
 };
 use fwmark::Permission;
 use net_names::Name;
@@ -20,6 +20,7 @@ pub struct Values {
     pub other: Name,
     pub index: u16,
     pub net: u16,
+    pub rank: u8,
     pub table: u32,
     pub permission: Permission,
     pub uid: Uid,
@@ -43,6 +44,7 @@ impl Values {
             other: lo,
             index: 0,
             net: 0,
+            rank: 0,
             table: 0,
             permission: Permission::Nothing,
             uid: root,
@@ -79,6 +81,10 @@ impl Values {
             }),
             Kind::Net => Some(Values {
                 net: read_net(word)?,
+                ..self
+            }),
+            Kind::Rank => Some(Values {
+                rank: read_rank(word)?,
                 ..self
             }),
             Kind::Table => Some(Values {

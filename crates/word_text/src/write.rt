@@ -95,6 +95,7 @@ pub fn write_value(
         Kind::Other => write_name(&v.other, out),
         Kind::Index => write_number(u32::from(v.index), out),
         Kind::Net => write_number(u32::from(v.net), out),
+        Kind::Rank => write_number(u32::from(v.rank), out),
         Kind::Table => write_number(v.table, out),
         Kind::Permission => write_permission(v.permission, out),
         Kind::Uid => write_uid(v.uid, out),

@@ -10,9 +10,9 @@ use Rattle.command_words.proofs.command.netd_command.Goals as goal
 
 pub loop-form-preserved : goal.loop-form-preserved
 loop-form-preserved c =
-    c.in_ok-command-2.ensures.shape c.in_ok-named_command.ensures.local
+    c.in_ok-command-2.ensures.shape c.in_ok-named_command-2.ensures.local
     ∙ ap₂ with_subcommand c.loop-form.invariant
-    (ap (λ (a : App). a.top) c.in_ok-named_command.ensures.app ∙ ap (λ (t : Text). (named_app t).top) c.name.ensures)
+    (ap (λ (a : App). a.top) c.in_ok-named_command-2.ensures.app ∙ ap (λ (t : Text). (named_app t).top) c.name.ensures)
     ∙ sym (fold_more with_wordless first_app ALL_WORDLESS c.loop-form.form-index Check c.loop-form-test.true)
 
 pub returns : goal.returns

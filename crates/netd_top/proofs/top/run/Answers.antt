@@ -10,10 +10,10 @@ pub returns-clause-formed : goal.returns-clause-formed
 returns-clause-formed g c = (run_in_order _ _ _ _ c.obey.ensures c.requires.starting).formed
 
 pub returns-clause-history : goal.returns-clause-history
-returns-clause-history g c = run_history _ _ _ _ c.one_form.ensures (λ packet. c.own_rule_means_start.ensures packet) c.obey.ensures c.requires.starting
+returns-clause-history g c = run_history _ _ _ _ c.one_form.ensures (λ packet. c.own_rule_means_start.ensures packet) c.requires.starting c.obey.ensures
 
 pub returns-clause-listed : goal.returns-clause-listed
-returns-clause-listed g c = fails_where_listed c.one_form.ensures _ _ _ _ c.obey.ensures c.requires.starting (g.met.K.Kernel.sound c.obey.new.kernel).listed
+returns-clause-listed g c = fails_where_listed _ _ _ _ c.one_form.ensures c.requires.starting (g.met.K.Kernel.sound c.obey.new.kernel).listed c.obey.ensures
 
 pub returns-clause-limited : goal.returns-clause-limited
 returns-clause-limited g c = (run_in_order _ _ _ _ c.obey.ensures c.requires.starting).few

@@ -1,11 +1,12 @@
 use Rattle.std.proofs.Common.{◌∙◌, ap, sym}
-use Rattle.std.specs.Option.{option_copied}
+use Rattle.std.specs.Option.{option_map}
 use Rattle.networks.specs.Lists.{find_id}
+use Rattle.network_store.specs.Stored.{net_of}
 use Rattle.policy_meaning.proofs.DefaultNetwork.{default-found, default-none}
 use Rattle.policy_meaning.proofs.named.default_network.Goals as goal
 
 pub returns-in_err-id : goal.returns-in_err-id
-returns-in_err-id c = ap option_copied c.from_residual.ensures ∙ sym (default-none c.args.state.now (sym c.in_err-id.ensures))
+returns-in_err-id c = ap (option_map (λ n. net_of n.now)) c.from_residual.ensures ∙ sym (default-none c.args.state.now (sym c.in_err-id.ensures))
 
 pub returns : goal.returns
 returns c =

@@ -13,6 +13,9 @@ returns-in-Index c = rw c.in-Index.is (search rules)
 pub returns-in-Net : goal.returns-in-Net
 returns-in-Net c = rw c.in-Net.is (search rules)
 
+pub returns-in-Rank : goal.returns-in-Rank
+returns-in-Rank c = rw c.in-Rank.is (search rules)
+
 pub returns-in-Table : goal.returns-in-Table
 returns-in-Table c = rw c.in-Table.is (search rules)
 

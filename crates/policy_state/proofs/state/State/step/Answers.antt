@@ -1,23 +1,25 @@
-use Rattle.std.proofs.Common.{◌≡◌, sym, subst, None, rules}
+use Rattle.std.proofs.Common.{◌≡◌, ◌∙◌, None, sym, subst}
 use Rattle.policy_state.specs.Good.{IsGood}
 use Rattle.policy_state.specs.Parts.{view_of}
-use Rattle.policy_state.specs.Step.{refusal, changed}
-use Rattle.policy_state.proofs.Goodness.{good-changed, accepted-parts}
+use Rattle.policy_state.specs.Step.{refusal}
+use Rattle.policy_state.specs.View.{StateView}
+use Rattle.policy_state.proofs.Goodness.{good-changed}
 use Rattle.policy_state.proofs.state.State.step.Goals as goal
 
-pub changed_by-requires : goal.changed_by-requires
-changed_by-requires c =
-    let accepted : refusal c.args.self.now c.args.command.now ≡ None = search rules in
-    (accepted-parts c.args.self.now c.args.command.now accepted).0
+pub turned_by-requires-clause-good_after : goal.turned_by-requires-clause-good_after
+turned_by-requires-clause-good_after c =
+    let s : StateView = view_of c.self.inside.parts in
+    let accepted : refusal s c.args.command.now ≡ None = sym c.in-Ok.ensures.code in
+    subst IsGood (sym c.in-Ok.ensures.makes.turned) (good-changed s c.args.command.now c.self.invariant.0 c.fits_types.ensures accepted)
 
 pub invariant_of-result : goal.invariant_of-result
 invariant_of-result c =
-    let accepted : refusal c.args.self.now c.args.command.now ≡ None = search rules in
-    let is : view_of c.in-Ok.parts ≡ changed c.args.self.now c.args.command.now = search rules in
-    subst IsGood (sym is) (good-changed c.args.self.now c.args.command.now (subst IsGood c.self.view_is c.self.invariant) c.fits_types.ensures accepted)
+    let s : StateView = view_of c.self.inside.parts in
+    let accepted : refusal s c.args.command.now ≡ None = sym c.in-Ok.ensures.code in
+    (subst IsGood (sym (c.in-Ok-turned_by.ensures.view ∙ c.in-Ok.ensures.makes.turned)) (good-changed s c.args.command.now c.self.invariant.0 c.fits_types.ensures accepted), c.in-Ok-turned_by.ensures.tallied)
 
-pub returns-in-Ok-clause-good : goal.returns-in-Ok-clause-good
-returns-in-Ok-clause-good c =
-    let accepted : refusal c.args.self.now c.args.command.now ≡ None = search rules in
-    let is : view_of c.in-Ok.parts ≡ changed c.args.self.now c.args.command.now = search rules in
-    subst IsGood (sym is) (good-changed c.args.self.now c.args.command.now (subst IsGood c.self.view_is c.self.invariant) c.fits_types.ensures accepted)
+pub returns-in-Ok-turned_by-clause-good : goal.returns-in-Ok-turned_by-clause-good
+returns-in-Ok-turned_by-clause-good c =
+    let s : StateView = view_of c.self.inside.parts in
+    let accepted : refusal s c.args.command.now ≡ None = sym c.in-Ok.ensures.code in
+    subst IsGood (sym (c.in-Ok-turned_by.ensures.view ∙ c.in-Ok.ensures.makes.turned)) (good-changed s c.args.command.now c.self.invariant.0 c.fits_types.ensures accepted)

@@ -1,4 +1,4 @@
-use Rattle.word_text.specs.Grammar.{addr, count, index, link, mark, named, net, other, permission, prefix, range, table, uid}
+use Rattle.word_text.specs.Grammar.{addr, count, index, link, mark, named, net, other, permission, prefix, range, rank, table, uid}
 use Rattle.word_text.proofs.Fitting.{fits_where}
 use Rattle.word_text.proofs.kind.Kind.fits.Goals as goal
 
@@ -13,6 +13,9 @@ returns-in-Index c = rw c.in-Index.is (fits_where (count index) _ c.read_index.r
 
 pub returns-in-Net : goal.returns-in-Net
 returns-in-Net c = rw c.in-Net.is (fits_where (count net) _ c.read_net.result c.is_some-in-Net.result c.read_net.ensures c.is_some-in-Net.ensures)
+
+pub returns-in-Rank : goal.returns-in-Rank
+returns-in-Rank c = rw c.in-Rank.is (fits_where (count rank) _ c.read_rank.result c.is_some-in-Rank.result c.read_rank.ensures c.is_some-in-Rank.ensures)
 
 pub returns-in-Table : goal.returns-in-Table
 returns-in-Table c = rw c.in-Table.is (fits_where (count table) _ c.read_table.result c.is_some-in-Table.result c.read_table.ensures c.is_some-in-Table.ensures)

@@ -13,6 +13,9 @@ returns-in_ok-read_index-in-Index c = rw c.in-Index.is (c.in_ok-read_index-in-In
 pub returns-in_ok-read_net-in-Net : goal.returns-in_ok-read_net-in-Net
 returns-in_ok-read_net-in-Net c = rw c.in-Net.is (c.in_ok-read_net-in-Net.field-0, c.in_ok-read_net-in-Net.ensures, refl)
 
+pub returns-in_ok-read_rank-in-Rank : goal.returns-in_ok-read_rank-in-Rank
+returns-in_ok-read_rank-in-Rank c = rw c.in-Rank.is (c.in_ok-read_rank-in-Rank.field-0, c.in_ok-read_rank-in-Rank.ensures, refl)
+
 pub returns-in_ok-read_table-in-Table : goal.returns-in_ok-read_table-in-Table
 returns-in_ok-read_table-in-Table c = rw c.in-Table.is (c.in_ok-read_table-in-Table.field-0, c.in_ok-read_table-in-Table.ensures, refl)
 

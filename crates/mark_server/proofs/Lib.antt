@@ -1,0 +1,4 @@
+pub mod Ranks
+pub mod Held
+pub mod Preferred
+pub mod Entries
