@@ -9,3 +9,4 @@ pub mod Change
 pub mod UserLists
 pub mod Users
 pub mod Room
+pub mod Routed

@@ -93,7 +93,7 @@ module _ {R : Type 0} (k : Kind R) where
       let alone : has k old x ≡ has k gone x = cut-has stay gone old cut x ∙ rw (cut-apart stay come new cut' once x t) refl in
       ap not alone)
 
-  put-first : (x : R) (xs : List R) → NoneBelow k (k.priority x) xs → put k x xs ≡ x ∷ xs
+  pub put-first : (x : R) (xs : List R) → NoneBelow k (k.priority x) xs → put k x xs ≡ x ∷ xs
   put-first x [] h = refl
   put-first x (y ∷ ys) h = elim (cases_Bool (leb (k.priority x) (k.priority y))) [
     | inl e ↦ rw e refl

@@ -38,7 +38,7 @@ use Rattle.rule_compile.proofs.Cutting.{Cut, all-stay, cut-filter}
 use Rattle.rule_compile.proofs.TouchedTables.{IsCut, is_plain}
 use Rattle.rule_compile.proofs.TouchedNetworks.{IsOne, found-one, change_at, cut-behind, split_at}
 use Rattle.rule_compile.proofs.TouchedItems.{own, own-same, with_links}
-use Rattle.rule_compile.proofs.TouchedKinds.{net-cut, split-stays, split-turns, split-old, nothing-of, cut-none, same-cut, link-comes, link-goes}
+use Rattle.rule_compile.proofs.TouchedKinds.{net-cut, split-stays, split-turns, split-old, nothing-of, cut-none, same-cut, same-items, link-comes, link-goes}
 use Rattle.rule_compile.proofs.TouchedUsers.{ranges-come, ranges-go, permission-turns, permission-stays}
 use Rattle.rule_compile.proofs.TouchedStates.{network-comes, network-goes, default-turns, default-same, lists-cut}
 
@@ -124,20 +124,16 @@ module _ (s : StateView) (formed : IsWellFormed s) where
           let is : m ≡ n = (found-one s formed net n at).alone m there (eq-eqb net m.id (sym (same_Some m.id net owner))) in
           subst (λ (k : Network). has_link k link ≡ true) is (find-passes (λ (k : Network). has_link k link) s.networks m found)
 
--- items that come from equal lists are equal
-links-cut : (s t : StateView) → ((per : OnePer) → items per t ≡ items per s) → IsCut s t no_part no_part
-links-cut s t same = record { stay = (same-cut s s refl).stay; of_old = (same-cut s s refl).of_old; of_new = λ per plain. subst (λ xs. Cut (items per s) (part_items per no_part) xs) (sym (same per)) ((same-cut s s refl).of_old per plain) }
-
 pub touched-cut : (c : Change) (s : StateView) → IsWellFormed s → Fits c s → IsCut s (turned c s) (go_part s c) (come_part s c)
 touched-cut change.Nothing s formed fits = same-cut s s refl
-touched-cut (change.LinkComes link) s formed fits = links-cut s (turned (change.LinkComes link) s) at
+touched-cut (change.LinkComes link) s formed fits = same-items s (turned (change.LinkComes link) s) at
   where
     at : (per : OnePer) → items per (turned (change.LinkComes link) s) ≡ items per s
     at Once = refl
     at EachLockdown = refl
     at EachPair = refl
     at (EachOf pick spread) = refl
-touched-cut (change.LinkGoes name) s formed fits = links-cut s (turned (change.LinkGoes name) s) at
+touched-cut (change.LinkGoes name) s formed fits = same-items s (turned (change.LinkGoes name) s) at
   where
     at : (per : OnePer) → items per (turned (change.LinkGoes name) s) ≡ items per s
     at Once = refl
@@ -158,7 +154,7 @@ touched-cut (change.InterfaceComes net link) s formed fits = by (find_id net s.n
     by None none = unknown-cut s formed net (with_link link) none
 touched-cut (change.InterfaceGoes net link) s formed fits = by (find_id net s.networks) refl
   where
-    abbrev part : Network → Part
+    part : Network → Part
     part n = record (link_part s n link) { pairs = filter (λ p. p.out == link) s.pairs }
 
     by : (o : Option Network) → find_id net s.networks ≡ o → IsCut s (without_interface net link s) (elim o [ Some n ↦ part n | None ↦ no_part ]) no_part
@@ -191,7 +187,7 @@ touched-cut (change.DefaultBecomes default) s formed fits = by (same_default s.d
     by false other = default-turns s formed default
 touched-cut (change.NetworkPermission net permission) s formed fits = by (find_id net s.networks) refl
   where
-    abbrev part : Network → Permission → Part
+    part : Network → Permission → Part
     part n asked = if asks_other permission n then asking_part s n asked else no_part
 
     by : (o : Option Network) → find_id net s.networks ≡ o
@@ -203,21 +199,21 @@ touched-cut (change.NetworkPermission net permission) s formed fits = by (find_i
         other true differs = permission-turns s formed net n at permission
         other false same = permission-stays s formed net n at permission same
     by None none = unknown-cut s formed net (with_permission permission) none
-touched-cut (change.UserPermission uid permission) s formed fits = links-cut s (turned (change.UserPermission uid permission) s) at
+touched-cut (change.UserPermission uid permission) s formed fits = same-items s (turned (change.UserPermission uid permission) s) at
   where
     at : (per : OnePer) → items per (turned (change.UserPermission uid permission) s) ≡ items per s
     at Once = refl
     at EachLockdown = refl
     at EachPair = refl
     at (EachOf pick spread) = refl
-touched-cut (change.UserForgotten uid) s formed fits = links-cut s (turned (change.UserForgotten uid) s) at
+touched-cut (change.UserForgotten uid) s formed fits = same-items s (turned (change.UserForgotten uid) s) at
   where
     at : (per : OnePer) → items per (turned (change.UserForgotten uid) s) ≡ items per s
     at Once = refl
     at EachLockdown = refl
     at EachPair = refl
     at (EachOf pick spread) = refl
-touched-cut (change.ProtectAllowed uid) s formed fits = links-cut s (turned (change.ProtectAllowed uid) s) (λ per. by per (is_protectable s uid))
+touched-cut (change.ProtectAllowed uid) s formed fits = same-items s (turned (change.ProtectAllowed uid) s) (λ per. by per (is_protectable s uid))
   where
     by : (per : OnePer) (b : Bool) → items per (if b then s else record s { protectable = s.protectable ++ uid ∷ [] }) ≡ items per s
     by per true = refl
@@ -225,7 +221,7 @@ touched-cut (change.ProtectAllowed uid) s formed fits = links-cut s (turned (cha
     by EachLockdown false = refl
     by EachPair false = refl
     by (EachOf pick spread) false = refl
-touched-cut (change.ProtectDenied uid) s formed fits = links-cut s (turned (change.ProtectDenied uid) s) at
+touched-cut (change.ProtectDenied uid) s formed fits = same-items s (turned (change.ProtectDenied uid) s) at
   where
     at : (per : OnePer) → items per (turned (change.ProtectDenied uid) s) ≡ items per s
     at Once = refl

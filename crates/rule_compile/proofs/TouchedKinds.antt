@@ -235,19 +235,23 @@ module _ (s : StateView) (formed : IsWellFormed s) (net link : ℕ) (n : Network
           (subst (λ xs. Cut (flat_map (split_at (Some (without_link link n))) s.networks) (flat_map (split_at (Some (with_link_alone link n))) s.networks) xs) (sym (split-old s formed net n at (without_link link) refl refl home))
           (split-links (permission_of n.kind) (filter (λ i. not (i == link)) n.interfaces) (link ∷ []) n.interfaces thinned (without_link link n) (with_link_alone link n) n refl refl refl refl refl refl s.networks)))
 
--- an equal state has nothing that turns
-pub same-cut : (s t : StateView) → t ≡ s → IsCut s t no_part no_part
-same-cut s t same = record {
+-- where there are the same items nothing turns
+
+pub still : (s : StateView) (per : OnePer) → Cut (items per s) (part_items per no_part) (items per s)
+still s OncePer = all-stay (nothing ∷ [])
+still s EachLockdown = all-stay (map range_item s.lockdown)
+still s EachPair = all-stay (map pair_item s.pairs)
+still s (EachOf pick Whole) = all-stay (items (EachOf pick Whole) s)
+still s (EachOf pick EachInterface) = all-stay (items (EachOf pick EachInterface) s)
+still s (EachOf pick EachRange) = all-stay (items (EachOf pick EachRange) s)
+still s (EachOf pick EachDefault) = all-stay (items (EachOf pick EachDefault) s)
+
+pub same-items : (s t : StateView) → ((per : OnePer) → items per t ≡ items per s) → IsCut s t no_part no_part
+same-items s t same = record {
   stay = λ per. items per s;
-  of_old = λ per plain. still per plain;
-  of_new = λ per plain. subst (λ u. Cut (items per s) (part_items per no_part) (items per u)) (sym same) (still per plain);
+  of_old = λ per plain. still s per;
+  of_new = λ per plain. subst (λ xs. Cut (items per s) (part_items per no_part) xs) (sym (same per)) (still s per);
 }
-  where
-    still : (per : OnePer) → is_plain per ≡ true → Cut (items per s) (part_items per no_part) (items per s)
-    still OncePer plain = all-stay (nothing ∷ [])
-    still EachLockdown plain = all-stay (map range_item s.lockdown)
-    still EachPair plain = all-stay (map pair_item s.pairs)
-    still (EachOf pick Whole) plain = all-stay (items (EachOf pick Whole) s)
-    still (EachOf pick EachInterface) plain = all-stay (items (EachOf pick EachInterface) s)
-    still (EachOf pick EachRange) plain = all-stay (items (EachOf pick EachRange) s)
-    still (EachOf pick EachDefault) plain = all-stay (items (EachOf pick EachDefault) s)
+
+pub same-cut : (s t : StateView) → t ≡ s → IsCut s t no_part no_part
+same-cut s t same = same-items s t (λ per. ap (items per) same)

@@ -37,7 +37,7 @@ use Rattle.rule_compile.proofs.Cutting.{Cut, all-stay, all-turn, cut-map, cut-fi
 use Rattle.rule_compile.proofs.TouchedTables.{IsCut, is_plain}
 use Rattle.rule_compile.proofs.TouchedNetworks.{IsOne, found-one, but, one-cut, gone-left, home-found, split_at, split-none, cut-behind, flat-alike, flat-none}
 use Rattle.rule_compile.proofs.TouchedItems.{own}
-use Rattle.rule_compile.proofs.TouchedKinds.{cut-none, same-cut}
+use Rattle.rule_compile.proofs.TouchedKinds.{cut-none, same-cut, still}
 
 no-default : (ns : List Network) → default_among ns None ≡ None
 no-default [] = refl
@@ -76,17 +76,8 @@ module _ (s : StateView) (formed : IsWellFormed s) (net : ℕ) (k : Kind) (unkno
       by false = refl
 
   pub network-comes : IsCut s (with_new_net net k s) no_part (new_part s fresh)
-  network-comes = record { stay = λ per. items per s; of_old = of_old; of_new = of_new }
+  network-comes = record { stay = λ per. items per s; of_old = λ per plain. still s per; of_new = of_new }
     where
-      of_old : (per : OnePer) → is_plain per ≡ true → Cut (items per s) (part_items per no_part) (items per s)
-      of_old OncePer plain = all-stay (nothing ∷ [])
-      of_old EachLockdown plain = all-stay (map range_item s.lockdown)
-      of_old EachPair plain = all-stay (map pair_item s.pairs)
-      of_old (EachOf pick Whole) plain = all-stay (items (EachOf pick Whole) s)
-      of_old (EachOf pick EachInterface) plain = all-stay (items (EachOf pick EachInterface) s)
-      of_old (EachOf pick EachRange) plain = all-stay (items (EachOf pick EachRange) s)
-      of_old (EachOf pick EachDefault) plain = all-stay (items (EachOf pick EachDefault) s)
-
       last : (f : Network → List Item) → Cut (flat_map f s.networks) (f fresh) (flat_map f (s.networks ++ fresh ∷ []))
       last f = subst (λ xs. Cut (flat_map f s.networks) (f fresh) xs) (sym (flat_map-append f s.networks (fresh ∷ []) ∙ ap (λ xs. flat_map f s.networks ++ xs) (append-nil (f fresh)))) (cut-behind (flat_map f s.networks) (f fresh))
 
@@ -281,7 +272,7 @@ module _ (s : StateView) (formed : IsWellFormed s) where
   one-default d m k in_m in_k one other = same_Some m k (sym (home-found s formed d m in_m one) ∙ home-found s formed d k in_k other)
 
   -- what doesn't turn of a row when the default network turns
-  default-stays : NetworkSet → NetworkPart → List Item
+  abbrev default-stays : NetworkSet → NetworkPart → List Item
   default-stays pick spread = if is_of_default pick then [] else flat_map (own pick spread s.default) s.networks
 
   module _ (d : Option ℕ) where
@@ -308,7 +299,7 @@ module _ (s : StateView) (formed : IsWellFormed s) where
     default-cut OfSecure spread plain = cut-none (flat_map (own OfSecure spread d) s.networks) (part_items (EachOf OfSecure spread) (default_part s d)) (flat_map (own OfSecure spread d) s.networks) (unreached OfSecure refl spread plain) refl
     default-cut OfBypass spread plain = cut-none (flat_map (own OfBypass spread d) s.networks) (part_items (EachOf OfBypass spread) (default_part s d)) (flat_map (own OfBypass spread d) s.networks) (unreached OfBypass refl spread plain) refl
 
-    stays : OnePer → List Item
+    abbrev stays : OnePer → List Item
     stays OncePer = nothing ∷ []
     stays EachLockdown = map range_item s.lockdown
     stays EachPair = map pair_item s.pairs
