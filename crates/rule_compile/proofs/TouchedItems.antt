@@ -72,7 +72,7 @@ module _ (picked : Bool) (id : ℕ) (needs : Permission) where
 abbrev pub with_links : Network → List ℕ → List LinkRoute → Network
 with_links n links routes = record n { interfaces = links; routes = routes }
 
-picks-linked : (pick : NetworkSet) (d : Option ℕ) (n : Network) (links : List ℕ) (routes : List LinkRoute) → picks pick d (with_links n links routes) ≡ picks pick d n
+pub picks-linked : (pick : NetworkSet) (d : Option ℕ) (n : Network) (links : List ℕ) (routes : List LinkRoute) → picks pick d (with_links n links routes) ≡ picks pick d n
 picks-linked OfLocal d n links routes = refl
 picks-linked OfPhysical d n links routes = refl
 picks-linked OfFree d n links routes = refl
