@@ -276,13 +276,13 @@ module _ (s : StateView) (formed : IsWellFormed s) where
   default-stays pick spread = if is_of_default pick then [] else flat_map (own pick spread s.default) s.networks
 
   module _ (d : Option ℕ) where
-    reached : (spread : NetworkPart) → is_split spread ≡ false → part_items (EachOf OfDefault spread) (default_part s d) ≡ items_of OfDefault spread d (default_among s.networks d)
+    pub reached : (spread : NetworkPart) → is_split spread ≡ false → part_items (EachOf OfDefault spread) (default_part s d) ≡ items_of OfDefault spread d (default_among s.networks d)
     reached Whole plain = refl
     reached EachInterface plain = refl
     reached EachRange plain = refl
     reached EachDefault plain = absurd (false≢true (sym plain))
 
-    unreached : (pick : NetworkSet) → is_of_default pick ≡ false → (spread : NetworkPart) → is_split spread ≡ false → part_items (EachOf pick spread) (default_part s d) ≡ []
+    pub unreached : (pick : NetworkSet) → is_of_default pick ≡ false → (spread : NetworkPart) → is_split spread ≡ false → part_items (EachOf pick spread) (default_part s d) ≡ []
     unreached pick other Whole plain = ap (λ b. if b then items_of pick Whole d (default_among s.networks d) else []) (not-reached pick other Whole)
     unreached pick other EachInterface plain = ap (λ b. if b then items_of pick EachInterface d (default_among s.networks d) else []) (not-reached pick other EachInterface)
     unreached pick other EachRange plain = ap (λ b. if b then items_of pick EachRange d (default_among s.networks d) else []) (not-reached pick other EachRange)

@@ -4,7 +4,6 @@ use Rattle.std.specs.Prelude.{◌&&◌, find, flat_map, if◌then◌else◌}
 use Rattle.std.proofs.lemmas.Bool.{cases_Bool, false≢true, eqb-true, not-true}
 use Rattle.fwmark.specs.Permission.{bits_of}
 use Rattle.fwmark.specs.declared.permission.Permission.{Permission}
-use Rattle.fwmark.specs.declared.permission.Permission.TheVariants as needs
 use Rattle.networks.specs.Kinds.{class_of, permission_of, ranges_of, is_physical}
 use Rattle.networks.specs.Lists.{find_id}
 use Rattle.networks.specs.declared.kind.Kind.{Kind}
@@ -29,6 +28,7 @@ use Rattle.uid_ranges.specs.Ranks.{all_at, ranked_without}
 use Rattle.uid_ranges.specs.declared.range.UidRange.{UidRange}
 use Rattle.rule_compile.specs.Touched.{Part, no_part, part_items, is_home, ranges_part, asking_part, asks_other, kind_having, with_ranges_alone}
 use Rattle.rule_compile.proofs.Cutting.{Cut, all-stay, all-turn, cut-filter}
+use Rattle.rule_compile.proofs.Permissions.{same_bits}
 use Rattle.rule_compile.proofs.TouchedTables.{IsCut}
 use Rattle.rule_compile.proofs.TouchedNetworks.{IsOne, found-one, change_at, split_at, split-none, cut-behind}
 use Rattle.rule_compile.proofs.TouchedItems.{own, own-ranges, having-class, having-permission}
@@ -194,17 +194,6 @@ module _ (s : StateView) (formed : IsWellFormed s) (net : ℕ) (n : Network) (at
           turns []
           (subst (λ xs. Cut [] xs (items (EachOf OfVirtual EachDefault) s)) (sym old) (all-turn (items (EachOf OfVirtual EachDefault) s)))
           (subst (λ xs. Cut [] xs (items (EachOf OfVirtual EachDefault) now)) (sym new) (all-turn (items (EachOf OfVirtual EachDefault) now)))
-
-  same_bits : (p q : Permission) → bits_of p ≡ bits_of q → p ≡ q
-  same_bits needs.Nothing needs.Nothing e = refl
-  same_bits needs.Nothing needs.Network e = absurd (omega (arith, e))
-  same_bits needs.Nothing needs.System e = absurd (omega (arith, e))
-  same_bits needs.Network needs.Nothing e = absurd (omega (arith, e))
-  same_bits needs.Network needs.Network e = refl
-  same_bits needs.Network needs.System e = absurd (omega (arith, e))
-  same_bits needs.System needs.Nothing e = absurd (omega (arith, e))
-  same_bits needs.System needs.Network e = absurd (omega (arith, e))
-  same_bits needs.System needs.System e = refl
 
   same-kind : (k : Kind) → (is_physical k && not (bits_of (permission_of k) == bits_of permission)) ≡ false → asking_for permission k ≡ k
   same-kind kind.Local same = refl

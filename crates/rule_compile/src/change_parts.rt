@@ -8,7 +8,7 @@ ghost use Rattle.policy_state.specs.Rows.{default_of, default_among};
 ghost use Rattle.policy_state.specs.Step.{is_pair};
 ghost use Rattle.rule_compile.specs.PartOf.{part_of, unrouted_part};
 ghost use Rattle.rule_compile.specs.Shapes.{shape_net, unrouted};
-ghost use Rattle.rule_compile.specs.Touched as part;
+ghost use Rattle.rule_compile.specs.Touched as parts;
 ghost use Rattle.uid_ranges.specs.Ranges.{has};
 ghost use Rattle.uid_ranges.specs.Ranks.{all_at};
 
@@ -33,15 +33,15 @@ fn home_of(state: &State, default: Option<u16>) -> Option<Shape>
 }
 
 fn is_home(state: &State, network: &StoredNetwork) -> bool
-    ensures { result ≡ part.is_home state.now (net_of network.now) }
+    ensures { result ≡ parts.is_home state.now (net_of network.now) }
 {
     picks(NetworkSet::OfDefault, state.default_net(), network)
 }
 
 /// A network that comes.
 pub(crate) fn new_part<'a>(state: &'a State, network: Shape<'a>) -> Touched<'a>
-    ensures { (n : Network) → shape_net network ≡ unrouted n
-        → part_of result ≡ unrouted_part (part.new_part state.now n) }
+    ensures { (n : Network) → shape_net network.entry ≡ unrouted n
+        → part_of result ≡ unrouted_part (parts.new_part state.now n) }
 {
     let default = state.default_net();
     Touched {
@@ -59,7 +59,7 @@ pub(crate) fn gone_part<'a>(
     pairs: &'a [TetherPair],
 ) -> Touched<'a>
     requires { pairs.now ≡ filter (λ p. has_link (net_of network.now) p.out) state.now.pairs }
-    ensures { part_of result ≡ unrouted_part (part.gone_part state.now (net_of network.now)) }
+    ensures { part_of result ≡ unrouted_part (parts.gone_part state.now (net_of network.now)) }
 {
     let others = if is_home(state, network) {
         Some(state.networks())
@@ -73,17 +73,19 @@ pub(crate) fn gone_part<'a>(
     }
 }
 
-/// One interface of a network.
+/// One interface of a network, with these pairs.
 pub(crate) fn link_part<'a>(
     state: &'a State,
     network: &'a StoredNetwork,
-    link: &'a [u16; 1],
+    links: &'a [u16],
+    pairs: &'a [TetherPair],
 ) -> Touched<'a>
-    ensures { (l : ℕ) → link.now ≡ l ∷ []
-        → part_of result ≡ unrouted_part (part.link_part state.now (net_of network.now) l) }
+    ensures { (link : ℕ) → links.now ≡ link ∷ []
+        → part_of result ≡ record (unrouted_part (parts.link_part state.now (net_of network.now)
+        link)) { pairs = pairs.now } }
 {
     let shape = Shape {
-        links: link,
+        links,
         ..Shape::of(network)
     };
     Touched {
@@ -92,6 +94,7 @@ pub(crate) fn link_part<'a>(
         default: state.default_net(),
         home: if is_home(state, network) { Some(shape) } else { None },
         others: Some(state.networks()),
+        pairs,
         ..untouched()
     }
 }
@@ -103,7 +106,7 @@ pub(crate) fn ranges_part<'a>(
     ranges: &'a [Ranked],
 ) -> Touched<'a>
     ensures { part_of result ≡
-        unrouted_part (part.ranges_part state.now (net_of network.now) ranges.now) }
+        unrouted_part (parts.ranges_part state.now (net_of network.now) ranges.now) }
 {
     let shape = Shape::of(network);
     Touched {
@@ -124,7 +127,7 @@ pub(crate) fn asking_part<'a>(
     permission: Permission,
 ) -> Touched<'a>
     ensures { part_of result ≡
-        unrouted_part (part.asking_part state.now (net_of network.now) permission) }
+        unrouted_part (parts.asking_part state.now (net_of network.now) permission) }
 {
     let whole = Shape::of(network);
     let shape = Shape {
@@ -142,7 +145,7 @@ pub(crate) fn asking_part<'a>(
 
 /// The default network, where this is its id.
 pub(crate) fn default_part<'a>(state: &'a State, default: Option<u16>) -> Touched<'a>
-    ensures { part_of result ≡ unrouted_part (part.default_part state.now default) }
+    ensures { part_of result ≡ unrouted_part (parts.default_part state.now default) }
 {
     let home = home_of(state, default);
     Touched {
@@ -156,7 +159,7 @@ pub(crate) fn default_part<'a>(state: &'a State, default: Option<u16>) -> Touche
 }
 
 pub(crate) fn same_default(one: Option<u16>, other: Option<u16>) -> bool
-    ensures { result ≡ part.same_default one other }
+    ensures { result ≡ parts.same_default one other }
 {
     match (one, other) {
         (None, None) => true,
@@ -167,7 +170,7 @@ pub(crate) fn same_default(one: Option<u16>, other: Option<u16>) -> bool
 
 /// Whether the network is physical and asks for another permission than this.
 pub(crate) fn asks_other(network: &StoredNetwork, permission: Permission) -> bool
-    ensures { result ≡ part.asks_other permission (net_of network.now) }
+    ensures { result ≡ parts.asks_other permission (net_of network.now) }
 {
     network.kind.is_physical() && network.kind.permission().bits() != permission.bits()
 }

@@ -1,9 +1,9 @@
 //! The rules that come and the rules that go with a change.
-ghost use Rattle.std.specs.Prelude.{◌≡◌, ◌==◌, [], filter, IfOk};
+ghost use Rattle.std.specs.Prelude.{◌≡◌, ◌==◌, [], filter, if◌then◌else◌, IfOk};
 ghost use Rattle.networks.specs.declared.kind.Kind.TheVariants as kind;
 ghost use Rattle.networks.specs.Kinds.{permission_of, ranges_of};
 ghost use Rattle.network_store.specs.Stored.{bare_net};
-ghost use Rattle.rule_compile.specs.Touched as part;
+ghost use Rattle.rule_compile.specs.Touched as parts;
 ghost use Rattle.uid_ranges.specs.Ranges.{has};
 ghost use Rattle.uid_ranges.specs.Ranks.{all_at};
 
@@ -25,8 +25,8 @@ fn physical_comes(
     net: u16,
     permission: Permission,
 ) -> Result<Vec<Rule>, AllocError>
-    ensures { IfOk result (λ rules. rules.items ≡ part.part_rules
-        (part.new_part state.now (bare_net net (kind.Physical permission [])))) }
+    ensures { IfOk result (λ rules. rules.items ≡ parts.part_rules
+        (parts.new_part state.now (bare_net net (kind.Physical permission [])))) }
 {
     let network = Shape {
         id: net,
@@ -45,8 +45,8 @@ fn virtual_comes(
     net: u16,
     secure: bool,
 ) -> Result<Vec<Rule>, AllocError>
-    ensures { IfOk result (λ rules. rules.items ≡ part.part_rules
-        (part.new_part state.now (bare_net net (kind.Virtual secure [])))) }
+    ensures { IfOk result (λ rules. rules.items ≡ parts.part_rules
+        (parts.new_part state.now (bare_net net (kind.Virtual secure [])))) }
 {
     let network = Shape {
         id: net,
@@ -61,7 +61,7 @@ fn virtual_comes(
 
 fn network_goes(alloc: Global, state: &State, net: u16) -> Result<Vec<Rule>, AllocError>
     ensures { IfOk result (λ rules. rules.items ≡
-        part.part_rules (part.of_net state.now net (part.gone_part state.now))) }
+        parts.part_rules (parts.of_net state.now net (parts.gone_part state.now))) }
 {
     let Some(network) = state.networks().get(net) else {
         return Ok(Vec::new(alloc));
@@ -77,12 +77,13 @@ fn interface_comes(
     link: u16,
 ) -> Result<Vec<Rule>, AllocError>
     ensures { IfOk result (λ rules. rules.items ≡
-        part.part_rules (part.of_net state.now net (λ n. part.link_part state.now n link))) }
+        parts.part_rules (parts.of_net state.now net (λ n. parts.link_part state.now n link))) }
 {
     let Some(network) = state.networks().get(net) else {
         return Ok(Vec::new(alloc));
     };
-    touched_rules(alloc, &link_part(state, network, &[link]))
+    let links = [link];
+    touched_rules(alloc, &link_part(state, network, &links, &[]))
 }
 
 fn interface_goes(
@@ -91,8 +92,8 @@ fn interface_goes(
     net: u16,
     link: u16,
 ) -> Result<Vec<Rule>, AllocError>
-    ensures { IfOk result (λ rules. rules.items ≡ part.part_rules
-        (part.of_net state.now net (λ n. record (part.link_part state.now n link) {
+    ensures { IfOk result (λ rules. rules.items ≡ parts.part_rules
+        (parts.of_net state.now net (λ n. record (parts.link_part state.now n link) {
           pairs = filter (λ p. p.out == link) state.now.pairs;
         }))) }
 {
@@ -100,11 +101,8 @@ fn interface_goes(
         return Ok(Vec::new(alloc));
     };
     let pairs = pairs_by(alloc, state.pairs(), link)?;
-    let touched = Touched {
-        pairs: &pairs,
-        ..link_part(state, network, &[link])
-    };
-    touched_rules(alloc, &touched)
+    let links = [link];
+    touched_rules(alloc, &link_part(state, network, &links, &pairs))
 }
 
 fn ranges_come(
@@ -114,8 +112,8 @@ fn ranges_come(
     rank: u8,
     ranges: &[UidRange],
 ) -> Result<Vec<Rule>, AllocError>
-    ensures { IfOk result (λ rules. rules.items ≡ part.part_rules (part.of_net state.now net
-        (λ n. part.ranges_part state.now n (all_at rank ranges.now)))) }
+    ensures { IfOk result (λ rules. rules.items ≡ parts.part_rules (parts.of_net state.now net
+        (λ n. parts.ranges_part state.now n (all_at rank ranges.now)))) }
 {
     let Some(network) = state.networks().get(net) else {
         return Ok(Vec::new(alloc));
@@ -130,8 +128,8 @@ fn ranges_go(
     net: u16,
     ranges: &[UidRange],
 ) -> Result<Vec<Rule>, AllocError>
-    ensures { IfOk result (λ rules. rules.items ≡ part.part_rules (part.of_net state.now net
-        (λ n. part.ranges_part state.now n
+    ensures { IfOk result (λ rules. rules.items ≡ parts.part_rules (parts.of_net state.now net
+        (λ n. parts.ranges_part state.now n
         (filter (λ r. has ranges.now r.users) (ranges_of n.kind))))) }
 {
     let Some(network) = state.networks().get(net) else {
@@ -148,9 +146,9 @@ fn default_becomes(
     becomes: Option<u16>,
     default: Option<u16>,
 ) -> Result<Vec<Rule>, AllocError>
-    ensures { IfOk result (λ rules. rules.items ≡ part.part_rules
-        (if part.same_default state.now.default becomes then part.no_part else
-        part.default_part state.now default)) }
+    ensures { IfOk result (λ rules. rules.items ≡ parts.part_rules
+        (if parts.same_default state.now.default becomes then parts.no_part else
+        parts.default_part state.now default)) }
 {
     if same_default(state.default_net(), becomes) {
         return Ok(Vec::new(alloc));
@@ -165,9 +163,9 @@ fn permission_goes(
     net: u16,
     permission: Permission,
 ) -> Result<Vec<Rule>, AllocError>
-    ensures { IfOk result (λ rules. rules.items ≡ part.part_rules (part.of_net state.now net
-        (λ n. if part.asks_other permission n then
-        part.asking_part state.now n (permission_of n.kind) else part.no_part))) }
+    ensures { IfOk result (λ rules. rules.items ≡ parts.part_rules (parts.of_net state.now net
+        (λ n. if parts.asks_other permission n then
+        parts.asking_part state.now n (permission_of n.kind) else parts.no_part))) }
 {
     let Some(network) = state.networks().get(net) else {
         return Ok(Vec::new(alloc));
@@ -185,9 +183,9 @@ fn permission_comes(
     net: u16,
     permission: Permission,
 ) -> Result<Vec<Rule>, AllocError>
-    ensures { IfOk result (λ rules. rules.items ≡ part.part_rules (part.of_net state.now net
-        (λ n. if part.asks_other permission n then
-        part.asking_part state.now n permission else part.no_part))) }
+    ensures { IfOk result (λ rules. rules.items ≡ parts.part_rules (parts.of_net state.now net
+        (λ n. if parts.asks_other permission n then
+        parts.asking_part state.now n permission else parts.no_part))) }
 {
     let Some(network) = state.networks().get(net) else {
         return Ok(Vec::new(alloc));
@@ -200,7 +198,7 @@ fn permission_comes(
 
 fn lockdown_rules(alloc: Global, lockdown: &[UidRange]) -> Result<Vec<Rule>, AllocError>
     ensures { IfOk result (λ rules. rules.items ≡
-        part.part_rules (record part.no_part { lockdown = lockdown.now })) }
+        parts.part_rules (record parts.no_part { lockdown = lockdown.now })) }
 {
     let touched = Touched {
         lockdown,
@@ -211,7 +209,7 @@ fn lockdown_rules(alloc: Global, lockdown: &[UidRange]) -> Result<Vec<Rule>, All
 
 fn pair_rules(alloc: Global, pairs: &[TetherPair]) -> Result<Vec<Rule>, AllocError>
     ensures { IfOk result (λ rules. rules.items ≡
-        part.part_rules (record part.no_part { pairs = pairs.now })) }
+        parts.part_rules (record parts.no_part { pairs = pairs.now })) }
 {
     let touched = Touched {
         pairs,
@@ -227,7 +225,7 @@ pub(crate) fn rules_that_go(
     change: &Change,
 ) -> Result<Vec<Rule>, AllocError>
     ensures { IfOk result (λ rules. rules.items ≡
-        part.part_rules (part.go_part state.now change.now)) }
+        parts.part_rules (parts.go_part state.now change.now)) }
 {
     match *change {
         Change::NetworkGoes { net } => network_goes(alloc, state, net),
@@ -272,7 +270,7 @@ pub(crate) fn rules_that_come(
     change: &Change,
 ) -> Result<Vec<Rule>, AllocError>
     ensures { IfOk result (λ rules. rules.items ≡
-        part.part_rules (part.come_part state.now change.now)) }
+        parts.part_rules (parts.come_part state.now change.now)) }
 {
     match *change {
         Change::PhysicalComes { net, permission } => physical_comes(alloc, state, net, permission),

@@ -9,7 +9,7 @@ ghost use Rattle.policy_state.specs.Table.{rule_of, in_order};
 ghost use Rattle.policy_state.specs.declared.row.NetworkPart.TheVariants.{EachDefault};
 ghost use Rattle.rule_compile.specs.PartOf.{part_of, unrouted_part, own_items};
 ghost use Rattle.rule_compile.specs.Shapes.{shape_net, unrouted};
-ghost use Rattle.rule_compile.specs.Touched as part;
+ghost use Rattle.rule_compile.specs.Touched as parts;
 
 use crate::part::Extent;
 use crate::shape::Shape;
@@ -39,7 +39,7 @@ pub(crate) struct Touched<'a> {
 
 /// No part.
 pub(crate) fn untouched<'a>() -> Touched<'a>
-    ensures { part_of result ≡ part.no_part }
+    ensures { part_of result ≡ parts.no_part }
 {
     Touched {
         extent: Extent::Whole,
@@ -53,7 +53,7 @@ pub(crate) fn untouched<'a>() -> Touched<'a>
 }
 
 fn reaches(extent: Extent, set: NetworkSet, part: NetworkPart) -> bool
-    ensures { result ≡ part.reaches extent set part }
+    ensures { result ≡ parts.reaches extent set part }
 {
     match extent {
         Extent::Whole => true,
@@ -111,7 +111,7 @@ fn push_splits(
 ) -> Result<(), AllocError>
     ensures { IfOk result (λ _. rules.new.items ≡ rules.old.items ++ map (rule_of row.now) (flat_map
         (items_at set EachDefault touched.now.default (part_of touched.now).home)
-        (part.splitting (part_of touched.now)))) }
+        (parts.splitting (part_of touched.now)))) }
 {
     let Some(home) = &touched.home else {
         return Ok(());
@@ -130,7 +130,7 @@ fn push_splits(
 
 fn push_row(rules: &mut Vec<Rule>, row: &Row, touched: &Touched) -> Result<(), AllocError>
     ensures { IfOk result (λ _. rules.new.items ≡ rules.old.items ++
-        map (rule_of row.now) (part.part_items row.now.per (part_of touched.now))) }
+        map (rule_of row.now) (parts.part_items row.now.per (part_of touched.now))) }
 {
     match row.per {
         OnePer::Once => Ok(()),
@@ -151,7 +151,7 @@ fn push_row(rules: &mut Vec<Rule>, row: &Row, touched: &Touched) -> Result<(), A
 
 fn push_rows(rules: &mut Vec<Rule>, rows: &[Row], touched: &Touched) -> Result<(), AllocError>
     ensures { IfOk result (λ _. rules.new.items ≡ rules.old.items ++ flat_map
-        (λ row. map (rule_of row) (part.part_items row.per (part_of touched.now))) rows.now) }
+        (λ row. map (rule_of row) (parts.part_items row.per (part_of touched.now))) rows.now) }
 {
     for row in rows {
         push_row(rules, row, touched)?;
@@ -161,7 +161,7 @@ fn push_rows(rules: &mut Vec<Rule>, rows: &[Row], touched: &Touched) -> Result<(
 
 /// The rules that the rows have for this part of a state, row by row.
 pub(crate) fn touched_rules(alloc: Global, touched: &Touched) -> Result<Vec<Rule>, AllocError>
-    ensures { IfOk result (λ rules. rules.items ≡ part.part_rules (part_of touched.now)) }
+    ensures { IfOk result (λ rules. rules.items ≡ parts.part_rules (part_of touched.now)) }
 {
     let mut rules = Vec::new(alloc);
     push_rows(&mut rules, &ROWS, touched)?;
