@@ -13,3 +13,5 @@ pub mod Segments
 pub mod Routes
 pub mod Formed
 pub mod Levels
+pub mod LeavingRoutes
+pub mod Leaving

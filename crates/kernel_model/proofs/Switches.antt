@@ -218,10 +218,10 @@ module _ (k : KernelState) (old new : List Rule) (gone : List (ℕ × Route)) (h
             (unused_by gone (own_rule ∷ new) r h.unused (sym (has-classes rule_kind (rules_of now mine) (own_rule ∷ new) (stands_behind mine m).classes r) ∙ there)) same))
 
     module _ (alike_old : GiveAlike k p old) (alike_new : GiveAlike k p new) where
-      walk-old : law.walk told verdict.Unreachable (own_rule ∷ old) ≡ walk k p
+      pub walk-old : law.walk told verdict.Unreachable (own_rule ∷ old) ≡ walk k p
       walk-old = sym (stands_walks rule_kind told verdict.Unreachable (rules_of k mine) (own_rule ∷ old) both.old_rises (own-alike told old h.old_behind alike_old) (h.in_family mine))
 
-      walk-new : law.walk told verdict.Unreachable (own_rule ∷ new) ≡ walk (switched k old new gone) p
+      pub walk-new : law.walk told verdict.Unreachable (own_rule ∷ new) ≡ walk (switched k old new gone) p
       walk-new =
           let whole : take (length all) all ≡ all = take-length all in
           let ended : rules_of (replay_from k all) mine ≡ rules_of (replay_from k (of_rules old new ++ take (length (of_routes gone)) (of_routes gone))) mine =

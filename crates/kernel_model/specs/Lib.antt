@@ -12,3 +12,4 @@ pub mod Form
 pub mod Moments
 pub mod Stands
 pub mod Switch
+pub mod Leaving

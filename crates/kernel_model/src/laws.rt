@@ -1,11 +1,20 @@
 //! Laws of a kernel that is brought from one list of rules to another: each function's contract is a law, and its body
 //! is empty.
-ghost use Rattle.std.specs.Prelude.{◌≡◌, ◌∷◌, ◌++◌, [], ◌+◌, ℕ, List, length, Some, slice_get, take};
+ghost use Rattle.std.specs.Prelude.{◌≡◌, ◌∷◌, ◌++◌, [], ◌+◌, ℕ, List, length, Option, Some, slice_get, take};
+ghost use Rattle.prefixes.specs.Best.{answer};
+ghost use Rattle.prefixes.specs.declared.addr.Addr.{Addr};
 ghost use Rattle.prefixes.specs.declared.route.Route.{Route};
 ghost use Rattle.rule_law.specs.Plans.{GoesOver, GoesOverAndBack};
 ghost use Rattle.rule_match.specs.declared.packet.Packet.{Packet};
 ghost use Rattle.rule_match.specs.declared.rule.Rule.{Rule};
 ghost use Rattle.kernel_model.specs.Journal.{entry, replay, replay_from};
+ghost use Rattle.kernel_model.specs.Leaving.{
+  LeaveInOrder,
+  taken_out,
+  leaving,
+  without_routes,
+  IsLeaving,
+};
 ghost use Rattle.kernel_model.specs.Moments.{moment, moment_from};
 ghost use Rattle.kernel_model.specs.Segment.{done, undone, IsSegment};
 ghost use Rattle.kernel_model.specs.Stands.{Stands};
@@ -65,6 +74,38 @@ pub fn ends()
         (refused : Request)
         → IsSwitch k old new gone
         → replay_from k (undone (additions old new) i refused) ≡ k }
+{}
+
+/// The law of routes: while the routes of a link are taken out of a table, a shorter prefix before a longer one, the table
+/// answers each packet by all of its routes below some moment, and by those that are left from it on. So what is left of
+/// the link's routes never covers an address whose best route has gone.
+pub fn routes_leave()
+    ensures { (link : ℕ) (gone routes : List Route) (dest : Addr) (bound : Option ℕ)
+        → LeaveInOrder link gone
+        → GoesOver (length gone) (λ i. answer (taken_out routes (take i gone)) dest bound)
+        (answer routes dest bound) (answer (taken_out routes gone) dest bound) }
+{}
+
+/// A link leaves, its routes first and then its rules: along all of this, and where a deletion breaks, each packet goes as
+/// before below some moment, and from it on where it goes when all is done.
+pub fn link_leaves()
+    ensures done { (k : KernelState) (old new : List Rule) (table link : ℕ) (gone : List Route)
+        (packet : Packet) (entries rest : List Entry)
+        → IsLeaving k old new table link gone
+        → GiveAlike (without_routes k table gone) packet old
+        → GiveAlike (without_routes k table gone) packet new
+        → entries ++ rest ≡ done [] (leaving old new table gone)
+        → GoesOver (length entries) (walk_along k packet entries) (walk k packet)
+        (walk (replay_from k (done [] (leaving old new table gone))) packet) }
+    ensures halted { (k : KernelState) (old new : List Rule) (table link : ℕ) (gone : List Route)
+        (packet : Packet) (entries : List Entry) (i : ℕ) (broken : Request)
+        → IsLeaving k old new table link gone
+        → GiveAlike (without_routes k table gone) packet old
+        → GiveAlike (without_routes k table gone) packet new
+        → slice_get (done [] (leaving old new table gone)) i ≡ Some (entry Deleted broken)
+        → entries ≡ take i (done [] (leaving old new table gone)) ++ entry Broken broken ∷ []
+        → GoesOver (length entries) (walk_along k packet entries) (walk k packet)
+        (walk (replay_from k (done [] (leaving old new table gone))) packet) }
 {}
 
 /// The moments of a journal past a length are those of its further entries.

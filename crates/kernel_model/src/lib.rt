@@ -13,7 +13,7 @@ mod walk;
 
 pub use found::FoundRule;
 pub use kernel::{Armed, Kernel, KernelFault, ask_add, ask_delete};
-pub use laws::{ends, goes_over, goes_over_and_back, moments_go_on};
+pub use laws::{ends, goes_over, goes_over_and_back, link_leaves, moments_go_on, routes_leave};
 pub use next::next_in;
 pub use plan::Plan;
 pub use request::{Entry, EntryKind, Request};

@@ -19,15 +19,16 @@ use Rattle.rule_kinds.specs.Kind.{rule_kind}
 use Rattle.rule_law.specs.Parts.{TurnsInto}
 use Rattle.rule_law.proofs.Turning.{TurnsInto-same}
 use Rattle.rule_match.specs.declared.rule.Rule.{Rule}
+use Rattle.uid_ranges.specs.declared.range.Uid.{Uid}
 use Rattle.uid_ranges.specs.declared.range.UidRange.{UidRange}
 use Rattle.uid_ranges.specs.declared.ranked.Ranked.{Ranked}
 use Rattle.policy_state.specs.Good.{IsWellFormed, is_default_there}
 use Rattle.policy_state.specs.Rows.{is_default, default_among, default_of, links_of, needs_of, items_in, items_at, items, nothing, range_item, pair_item}
 use Rattle.policy_state.specs.Step.{with_net, with_link, asking_for, with_permission}
 use Rattle.policy_state.specs.Table.{rows, rule_of, rules_in, in_order, table_by_rows, rule_table}
-use Rattle.policy_state.specs.View.{StateView}
-use Rattle.link_table.specs.declared.link.Link.{Link}
+use Rattle.policy_state.specs.View.{StateView, Link}
 use Rattle.policy_state.specs.declared.tether.TetherPair.{TetherPair}
+use Rattle.policy_state.specs.declared.users.UserPermission.{UserPermission}
 use Rattle.policy_state.specs.declared.row.Item.{Item}
 use Rattle.policy_state.specs.declared.row.NetworkPart.{NetworkPart}
 use Rattle.policy_state.specs.declared.row.NetworkPart.TheVariants.{Whole, EachInterface, EachRange, EachDefault}
@@ -125,28 +126,29 @@ touches s change good good' kept =
 
 -- The default network of a changed state.
 
-default-mapped : (change : Network → Network) → ((n : Network) → IsKept n (change n)) → (d : Option ℕ) (ns : List Network) → default_among (map change ns) d ≡ option_map change (default_among ns d)
-default-mapped change kept d [] = refl
-default-mapped change kept d (n ∷ ns) =
+pub default-mapped : (change : Network → Network) → ((n : Network) → (change n).id ≡ n.id) → ((n : Network) → class_of (change n).kind ≡ class_of n.kind) → (d : Option ℕ) (ns : List Network)
+    → default_among (map change ns) d ≡ option_map change (default_among ns d)
+default-mapped change ids classes d [] = refl
+default-mapped change ids classes d (n ∷ ns) =
     let same : ((class_of (change n).kind == 1) && is_default d (change n).id) ≡ ((class_of n.kind == 1) && is_default d n.id) =
-    ap₂ (λ (c id : ℕ). (c == 1) && is_default d id) (kept n).network_class (kept n).id in
-    rw same (by ((class_of n.kind == 1) && is_default d n.id) (default-mapped change kept d ns))
+    ap₂ (λ (c id : ℕ). (c == 1) && is_default d id) (classes n) (ids n) in
+    rw same (by ((class_of n.kind == 1) && is_default d n.id) (default-mapped change ids classes d ns))
   where
     by : (b : Bool) → default_among (map change ns) d ≡ option_map change (default_among ns d)
         → (if b then Some (change n) else default_among (map change ns) d) ≡ option_map change (if b then Some n else default_among ns d)
     by true rest = refl
     by false rest = rest
 
-default-more : (ns more : List Network) (d : Option ℕ) → is_default_there ns d ≡ true → default_among (ns ++ more) d ≡ default_among ns d
-default-more ns more None there = none (ns ++ more) ∙ sym (none ns)
+pub no-default : (ns : List Network) → default_among ns None ≡ None
+no-default [] = refl
+no-default (n ∷ ns) = rw (never (class_of n.kind == 1)) (no-default ns)
   where
     never : (b : Bool) → (b && false) ≡ false
     never true = refl
     never false = refl
 
-    none : (ns : List Network) → default_among ns None ≡ None
-    none [] = refl
-    none (n ∷ ns) = rw (never (class_of n.kind == 1)) (none ns)
+default-more : (ns more : List Network) (d : Option ℕ) → is_default_there ns d ≡ true → default_among (ns ++ more) d ≡ default_among ns d
+default-more ns more None there = no-default (ns ++ more) ∙ sym (no-default ns)
 default-more [] more (Some id) there = absurd (false≢true there)
 default-more (n ∷ ns) more (Some id) there = elim (cases_Bool ((n.id == id) && kinds.is_physical n.kind)) [
   | inl here ↦
@@ -174,6 +176,13 @@ links-stay s links EachLockdown = refl
 links-stay s links EachPair = refl
 links-stay s links (EachOf pick spread) = refl
 
+-- what is known of users alone
+pub users-stay : (s : StateView) (permissions : List UserPermission) (protectable : List Uid) (per : OnePer) → items per (record s { permissions = permissions; protectable = protectable }) ≡ items per s
+users-stay s permissions protectable Once = refl
+users-stay s permissions protectable EachLockdown = refl
+users-stay s permissions protectable EachPair = refl
+users-stay s permissions protectable (EachOf pick spread) = refl
+
 -- routes alone
 module _ (routes_of : Network → List LinkRoute) where
   abbrev routed_net : Network → Network
@@ -198,13 +207,13 @@ module _ (routes_of : Network → List LinkRoute) where
     where
       at : (n : Network) → items_at pick spread s.default (default_among (map routed_net s.networks) s.default) (routed_net n) ≡ items_at pick spread s.default (default_of s) n
       at n = ap₂ (λ (b : Bool) (is : List Item). if b then is else []) (picks-same pick s.default (routed_net n) n refl refl)
-          (ap (λ home. items_in spread home (routed_net n)) (default-mapped routed_net routed-kept s.default s.networks) ∙ in-routed spread (default_of s) n)
+          (ap (λ home. items_in spread home (routed_net n)) (default-mapped routed_net (λ n. (routed-kept n).id) (λ n. (routed-kept n).network_class) s.default s.networks) ∙ in-routed spread (default_of s) n)
 
       each : (ns : List Network) → flat_map (λ n. items_at pick spread s.default (default_among (map routed_net s.networks) s.default) (routed_net n)) ns ≡ flat_map (items_at pick spread s.default (default_of s)) ns
       each [] = refl
       each (n ∷ ns) = ap₂ (λ (xs ys : List Item). xs ++ ys) (at n) (each ns)
 
-mapped-same : {A B : Type 0} (f g : A → B) (xs : List A) → ((x : A) → f x ≡ g x) → map f xs ≡ map g xs
+pub mapped-same : {A B : Type 0} (f g : A → B) (xs : List A) → ((x : A) → f x ≡ g x) → map f xs ≡ map g xs
 mapped-same f g [] same = refl
 mapped-same f g (x ∷ xs) same = ap₂ (λ (y : _) (ys : List _). y ∷ ys) (same x) (mapped-same f g xs same)
 
@@ -259,7 +268,7 @@ module _ (net link : ℕ) where
   pub interface-turns : (s : StateView) → IsWellFormed s → IsWellFormed (with_net net (with_link link) s) → TableTurns s (with_net net (with_link link) s)
   interface-turns s good good' =
       let t : StateView = with_net net (with_link link) s in
-      let home : default_of t ≡ option_map linked (default_of s) = default-mapped linked linked-kept s.default s.networks in
+      let home : default_of t ≡ option_map linked (default_of s) = default-mapped linked (λ n. (linked-kept n).id) (λ n. (linked-kept n).network_class) s.default s.networks in
       let more = more-links (default_of s) in
       by-rows s t (interface-comes (owners_of t) s t net link (touches s linked good good' linked-kept) more.0 (ap links_of home ∙ more.1) (ap needs_of home ∙ more.2))
 
@@ -313,7 +322,7 @@ module _ (net : ℕ) (permission : Permission) where
   permission-turns-table s good good' =
       let t : StateView = record s { networks = map asked_of s.networks } in
       let is : with_net net (with_permission permission) s ≡ t = ap (λ ns. record s { networks = ns }) (asked-is s.networks) in
-      let home : default_of t ≡ option_map asked_of (default_of s) = default-mapped asked_of asked-kept s.default s.networks in
+      let home : default_of t ≡ option_map asked_of (default_of s) = default-mapped asked_of (λ n. (asked-kept n).id) (λ n. (asked-kept n).network_class) s.default s.networks in
       subst (TableTurns s) (sym is)
       (by-rows s t (permission-turns (owners_of t) s t kind_of (touches s asked_of good (subst IsWellFormed is good') asked-kept) all-ranges (ap links_of home ∙ same-links (default_of s))))
 
@@ -326,7 +335,7 @@ lockdown-goes-turns s stays good = shrinks-turn s (record s { lockdown = filter 
 
 -- ranges come to a network that isn't the local one
 module _ (net : ℕ) (more : List Ranked) where
-  abbrev used : Network → Network
+  abbrev pub used : Network → Network
   used n = if net == n.id then with_users more n else n
 
   used-kept : (n : Network) → IsKept n (used n)
@@ -368,7 +377,7 @@ module _ (net : ℕ) (more : List Ranked) where
       → TableTurns s (record s { networks = map used s.networks })
   ranges-turn s good good' not_local =
       let t : StateView = record s { networks = map used s.networks } in
-      let home : default_of t ≡ option_map used (default_of s) = default-mapped used used-kept s.default s.networks in
+      let home : default_of t ≡ option_map used (default_of s) = default-mapped used (λ n. (used-kept n).id) (λ n. (used-kept n).network_class) s.default s.networks in
       by-rows s t (users-come-turn (owners_of t) s t net more (touches s used good good' used-kept) (λ n there here. more-ranges n.kind (not_local n there here))
       (λ n part split. ap (λ h. items_in part h n) home ∙ same-split (default_of s) n part split))
 
@@ -412,16 +421,16 @@ pub record Thins (s t : StateView) (stays : Network → Bool) (change : Network 
   pub pairs : Left s.pairs t.pairs
 
 -- networks go, or lose interfaces or ranges, and with them perhaps the default, lockdown ranges and tether pairs
+pub thins-shrinks : (s t : StateView) (stays : Network → Bool) (change : Network → Network) → Thins s t stays change → Shrinks s t
+thins-shrinks s t stays change thins Once = left-same (nothing ∷ [])
+thins-shrinks s t stays change thins EachLockdown = left-map range_item s.lockdown t.lockdown thins.lockdown
+thins-shrinks s t stays change thins EachPair = left-map pair_item s.pairs t.pairs thins.pairs
+thins-shrinks s t stays change thins (EachOf pick spread) =
+    subst (λ ns. Left (items (EachOf pick spread) s) (flat_map (items_at pick spread t.default (default_of t)) ns)) (sym thins.networks)
+    (networks-left pick spread s.default t.default (default_of s) (default_of t) thins.default stays change thins.each s.networks)
+
 pub thins-turn : (s t : StateView) (stays : Network → Bool) (change : Network → Network) → IsWellFormed s → Thins s t stays change → TableTurns s t
-thins-turn s t stays change good thins = shrinks-turn s t good by
-  where
-    by : (per : OnePer) → Left (items per s) (items per t)
-    by Once = left-same (nothing ∷ [])
-    by EachLockdown = left-map range_item s.lockdown t.lockdown thins.lockdown
-    by EachPair = left-map pair_item s.pairs t.pairs thins.pairs
-    by (EachOf pick spread) =
-        subst (λ ns. Left (items (EachOf pick spread) s) (flat_map (items_at pick spread t.default (default_of t)) ns)) (sym thins.networks)
-        (networks-left pick spread s.default t.default (default_of s) (default_of t) thins.default stays change thins.each s.networks)
+thins-turn s t stays change good thins = shrinks-turn s t good (thins-shrinks s t stays change thins)
 
 -- what is left of a network that stays as it is, or that loses interfaces or ranges
 

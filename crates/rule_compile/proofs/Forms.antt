@@ -17,8 +17,9 @@ use Rattle.rule_law.specs.Plans.{beyond}
 use Rattle.rule_match.specs.declared.rule.Rule.{Rule}
 use Rattle.kernel_model.specs.Form.{IsWellFormedRule, LeadsWell, IsWellFormedRoute, IsWellFormed}
 use Rattle.rule_kinds.specs.Kind.{rule_kind}
-use Rattle.kernel_model.specs.Switch.{twins, additions, deletions}
+use Rattle.kernel_model.specs.Switch.{twins, additions, deletions, requests_of}
 use Rattle.kernel_model.specs.declared.request.Request.{Request}
+use Rattle.kernel_model.specs.declared.request.Request.TheVariants as req
 use Rattle.list_lemmas.proofs.Alls.{all-append, all-append_parts, all-reverse, all-at, all-flat, all-from, all-mapped}
 use Rattle.policy_state.specs.Good.{IsGood, IsNetwork, LeadsOut}
 use Rattle.policy_state.specs.Step.{changed}
@@ -26,13 +27,14 @@ use Rattle.policy_state.specs.Table.{rule_table, route_list, routes_of_net, tabl
 use Rattle.policy_state.specs.View.{StateView}
 use Rattle.commands.specs.declared.command.Command.{Command}
 use Rattle.policy_state.proofs.AlikeRules.{all-has}
-use Rattle.policy_state.proofs.GoodStates.{has-links}
-use Rattle.policy_state.proofs.Owners.{link-has}
+use Rattle.policy_state.proofs.GoodStates.{each-has, has-links}
+use Rattle.policy_state.proofs.Owners.{Has, link-has}
 use Rattle.policy_state.proofs.Tables.{table-is}
 use Rattle.rule_compile.specs.Asked.{asked_adds, asked_deletes}
 use Rattle.rule_compile.proofs.Asking.{all-twins, is_beyond}
-use Rattle.rule_compile.proofs.Asks.{Asks, Rules, Comes, Goes}
+use Rattle.rule_compile.proofs.Asks.{Asks, Rules, Comes, Goes, Leaves}
 use Rattle.rule_compile.proofs.Formed.{table-formed}
+use Rattle.rule_compile.proofs.Leaving.{all-of}
 
 rule-formed : (s : StateView) (x : Rule) → IsGood s → has rule_kind (rule_table s) x ≡ true → IsWellFormedRule x
 rule-formed s x good h = table-formed s (has-links s good.formed) x (subst (λ (rules : List Rule). has rule_kind rules x ≡ true) (table-is s) h)
@@ -86,10 +88,15 @@ additions-formed : (s t : StateView) → IsGood t → AreAllFormed (additions (r
 additions-formed s t good =
     all-twins IsWellFormed (beyond rule_kind (rule_table s) (rule_table t)) (λ f x h. rule-formed t x good (is_beyond (rule_table s) (rule_table t) x h).there)
 
-deletions-formed : (s t : StateView) → IsGood s → AreAllFormed (deletions (rule_table s) (rule_table t) [])
-deletions-formed s t good =
-    all-append IsWellFormed (reverse (twins (beyond rule_kind (rule_table t) (rule_table s)))) []
-    (all-reverse IsWellFormed (twins (beyond rule_kind (rule_table t) (rule_table s))) (additions-formed t s good)) tt
+-- routes of the state
+gone-formed : (s : StateView) (gone : List (ℕ × Route)) → IsGood s → ((g : ℕ × Route) → Has gone g → Has (route_list s) g) → AreAllFormed (requests_of gone)
+gone-formed s gone good inside =
+    all-mapped IsWellFormed (λ (g : ℕ × Route). req.Route g.0 g.1) gone (all-of IsWellRouted gone (λ g h. each-has IsWellRouted (route_list s) g (routes-formed s good) (inside g h)))
+
+deletions-formed : (s t : StateView) (gone : List (ℕ × Route)) → IsGood s → ((g : ℕ × Route) → Has gone g → Has (route_list s) g) → AreAllFormed (deletions (rule_table s) (rule_table t) gone)
+deletions-formed s t gone good inside =
+    all-append IsWellFormed (reverse (twins (beyond rule_kind (rule_table t) (rule_table s)))) (requests_of gone)
+    (all-reverse IsWellFormed (twins (beyond rule_kind (rule_table t) (rule_table s))) (additions-formed t s good)) (gone-formed s gone good inside)
 
 pub adds-formed : (s : StateView) (c : Command) → IsGood s → IsGood (changed s c) → Asks s c → AreAllFormed (asked_adds s c)
 adds-formed s c good after (Rules it) = subst AreAllFormed (sym it.adds) (additions-formed s (changed s c) after)
@@ -99,9 +106,14 @@ adds-formed s c good after (Comes it) =
     subst (AllByRecursion IsWellFormedRoute) here (numbered-formed it.table (route_list (changed s c)) (routes-formed (changed s c) after)) in
     subst AreAllFormed (sym it.adds) ((all-append_parts IsWellFormedRoute (routes_in it.table (route_list s)) (it.route ∷ []) all).1.0, tt)
 adds-formed s c good after (Goes it) = subst AreAllFormed (sym it.adds) tt
+adds-formed s c good after (Leaves it) = subst AreAllFormed (sym it.adds) tt
 
 pub deletes-formed : (s : StateView) (c : Command) → IsGood s → Asks s c → AreAllFormed (asked_deletes s c)
-deletes-formed s c good (Rules it) = subst AreAllFormed (sym it.deletes) (deletions-formed s (changed s c) good)
+deletes-formed s c good (Rules it) = subst AreAllFormed (sym it.deletes) (deletions-formed s (changed s c) it.gone good it.routes.inside)
 deletes-formed s c good (Comes it) = subst AreAllFormed (sym it.deletes) tt
 deletes-formed s c good (Goes it) =
     subst AreAllFormed (sym it.deletes) (route-formed (routes_in it.table (route_list s)) it.route it.there (numbered-formed it.table (route_list s) (routes-formed s good)), tt)
+deletes-formed s c good (Leaves it) =
+    subst AreAllFormed (sym it.deletes)
+    (all-append IsWellFormed (requests_of it.first) (deletions (rule_table s) (rule_table (changed s c)) []) (gone-formed s it.first good it.routes.inside)
+    (deletions-formed s (changed s c) [] good (λ g h. absurd h)))

@@ -78,7 +78,7 @@ one_of_key (x ∷ xs) key distinct there =
 
 -- members of lists that are filtered
 
-of_filter : {A : Type 0} (p : A → Bool) (xs : List A) (x : A) → Has (filter p xs) x → Has xs x × (p x ≡ true)
+pub of_filter : {A : Type 0} (p : A → Bool) (xs : List A) (x : A) → Has (filter p xs) x → Has xs x × (p x ≡ true)
 of_filter p [] x h = absurd h
 of_filter {A = A} p (y ∷ ys) x h = elim (cases_Bool (p y)) [
   | inl e ↦ first e (of_filter p ys x) (subst (λ (b : Bool). Has (cond b (y ∷ filter p ys) (filter p ys)) x) e h)
@@ -89,7 +89,7 @@ of_filter {A = A} p (y ∷ ys) x h = elim (cases_Bool (p y)) [
     first e others (inl same) = (inl same, subst (λ (z : A). p z ≡ true) same e)
     first e others (inr t) = let rest = others t in (inr rest.0, rest.1)
 
-has_filtered : {A : Type 0} (p : A → Bool) (xs : List A) (x : A) → Has xs x → p x ≡ true → Has (filter p xs) x
+pub has_filtered : {A : Type 0} (p : A → Bool) (xs : List A) (x : A) → Has xs x → p x ≡ true → Has (filter p xs) x
 has_filtered p [] x h e = absurd h
 has_filtered {A = A} p (y ∷ ys) x (inl same) e = rw (ap p same ∙ e) (inl same)
 has_filtered p (y ∷ ys) x (inr t) e = by (p y) (has_filtered p ys x t e)
@@ -98,12 +98,12 @@ has_filtered p (y ∷ ys) x (inr t) e = by (p y) (has_filtered p ys x t e)
     by true rest = inr rest
     by false rest = rest
 
-in_by : (link : ℕ) (rs : List LinkRoute) (r : LinkRoute) → Has rs r → r.link ≡ link → Has (routes_by link rs) r.route
+pub in_by : (link : ℕ) (rs : List LinkRoute) (r : LinkRoute) → Has rs r → r.link ≡ link → Has (routes_by link rs) r.route
 in_by link rs r h is = has_map (λ (r : LinkRoute). r.route) (filter (λ (r : LinkRoute). r.link == link) rs) r (has_filtered (λ (r : LinkRoute). r.link == link) rs r h (eq-eqb r.link link is))
 
 -- tables of networks
 
-is_local_table : (k : Kind) (link : ℕ) → ((is_local k ≡ true) × (table_of k link ≡ 97)) ⊎ ((is_local k ≡ false) × (table_of k link ≡ 1000 + link))
+pub is_local_table : (k : Kind) (link : ℕ) → ((is_local k ≡ true) × (table_of k link ≡ 97)) ⊎ ((is_local k ≡ false) × (table_of k link ≡ 1000 + link))
 is_local_table kind.Local link = inl (refl, refl)
 is_local_table (kind.Physical permission apps) link = inr (refl, refl)
 is_local_table (kind.Virtual secure users) link = inr (refl, refl)

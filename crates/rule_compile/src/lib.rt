@@ -4,6 +4,7 @@
 
 mod difference;
 mod laws;
+mod going_routes;
 mod requests;
 mod routes;
 mod rows;

@@ -1,13 +1,16 @@
-//! The route that a command adds or takes out, as a request.
-ghost use Rattle.std.specs.Prelude.{◌≡◌, IfOk};
+//! The routes that a command adds or takes out, as requests.
+ghost use Rattle.std.specs.Prelude.{◌≡◌, true, IfOk};
 ghost use Rattle.kernel_model.specs.Switch.{requests_of};
 ghost use Rattle.commands.specs.declared.command.Command.TheVariants.{RouteAdd, RouteRemove};
+ghost use Rattle.network_store.specs.Stored.{net_of};
+ghost use Rattle.networks.specs.Network.{routes_by};
+ghost use Rattle.fib_table.specs.Table.{are_keys_distinct};
 ghost use Rattle.rule_compile.specs.Asked.{keyed_in, routes_come, routes_gone};
 
 use crate::rule::table_of;
 use kernel_model::Request;
 use net_names::Name;
-use networks::Network;
+use network_store::StoredNetwork;
 use policy_state::{State, Way, key_of, route_of};
 use prefixes::{Prefix, Route};
 use std::alloc::{AllocError, Global};
@@ -38,26 +41,25 @@ pub(crate) fn route_that_comes(
     Ok(requests)
 }
 
-/// What asks for those of the network's routes that belong to the link and have the key.
+/// What asks for the network's route that belongs to the link and has the key.
 fn requests_by(
     alloc: Global,
-    network: &Network,
+    network: &StoredNetwork,
     link: u16,
     key: &Route,
 ) -> Result<Vec<Request>, AllocError>
+    requires once { are_keys_distinct (routes_by link (net_of network.now).routes) ≡ true }
     ensures { IfOk result (λ requests. requests.items ≡
-        requests_of (keyed_in network.now link key.now)) }
+        requests_of (keyed_in (net_of network.now) link key.now)) }
 {
-    let table = table_of(&network.kind, link);
     let mut requests = Vec::new(alloc);
-    for route in network.routes.as_slice() {
-        if route.is_keyed_by(link, key) {
-            requests.push(Request::Route {
-                table,
-                route: route.route,
-            })?;
-        }
-    }
+    let Some(route) = network.routes.find(link, key) else {
+        return Ok(requests);
+    };
+    requests.push(Request::Route {
+        table: table_of(&network.kind, link),
+        route: route.route,
+    })?;
     Ok(requests)
 }
 

@@ -1,6 +1,7 @@
 //! The rules of a row of the table.
 ghost use Rattle.std.specs.Prelude.{◌≡◌, ◌++◌, map, flat_map, IfOk};
-ghost use Rattle.std.specs.Option.{option_copied};
+ghost use Rattle.std.specs.Option.{option_map};
+ghost use Rattle.network_store.specs.Stored.{net_of};
 ghost use Rattle.networks.specs.Kinds.{ranges_of};
 ghost use Rattle.policy_state.specs.Rows.{
   nothing,
@@ -21,11 +22,11 @@ ghost use Rattle.policy_state.specs.declared.row.NetworkPart.TheVariants.{Whole,
 
 use crate::rule::rule_of;
 use fwmark::Permission;
-use networks::Network;
+use network_store::StoredNetwork;
 use policy_state::{Item, NetworkPart, NetworkSet, OnePer, Row, State, TetherPair, picks};
 use rule_match::Rule;
 use std::alloc::AllocError;
-use uid_ranges::{RangeList, Ranked, UidRange};
+use uid_ranges::{Ranked, UidRange};
 
 /// The item of a row that has one rule for all.
 fn nothing() -> Item
@@ -60,8 +61,8 @@ fn pair_item(pair: TetherPair) -> Item
     }
 }
 
-fn net_item(network: &Network) -> Item
-    ensures { result ≡ net_item network.now }
+fn net_item(network: &StoredNetwork) -> Item
+    ensures { result ≡ net_item (net_of network.now) }
 {
     Item {
         net: network.id,
@@ -70,8 +71,8 @@ fn net_item(network: &Network) -> Item
     }
 }
 
-fn link_item(network: &Network, link: u16) -> Item
-    ensures { result ≡ link_item network.now link }
+fn link_item(network: &StoredNetwork, link: u16) -> Item
+    ensures { result ≡ link_item (net_of network.now) link }
 {
     Item {
         incoming: link,
@@ -80,8 +81,8 @@ fn link_item(network: &Network, link: u16) -> Item
     }
 }
 
-fn user_item(network: &Network, link: u16, range: Ranked) -> Item
-    ensures { result ≡ user_item network.now link range }
+fn user_item(network: &StoredNetwork, link: u16, range: Ranked) -> Item
+    ensures { result ≡ user_item (net_of network.now) link range }
 {
     Item {
         users: Some(range.users),
@@ -90,8 +91,8 @@ fn user_item(network: &Network, link: u16, range: Ranked) -> Item
     }
 }
 
-fn split_item(network: &Network, needs: Permission, link: u16) -> Item
-    ensures { result ≡ split_item network.now needs link }
+fn split_item(network: &StoredNetwork, needs: Permission, link: u16) -> Item
+    ensures { result ≡ split_item (net_of network.now) needs link }
 {
     Item {
         net: network.id,
@@ -101,9 +102,13 @@ fn split_item(network: &Network, needs: Permission, link: u16) -> Item
     }
 }
 
-fn push_interfaces(rules: &mut Vec<Rule>, row: &Row, network: &Network) -> Result<(), AllocError>
+fn push_interfaces(
+    rules: &mut Vec<Rule>,
+    row: &Row,
+    network: &StoredNetwork,
+) -> Result<(), AllocError>
     ensures { IfOk result (λ _. rules.new.items ≡ rules.old.items ++
-        map (rule_of row.now) (map (link_item network.now) network.now.interfaces)) }
+        map (rule_of row.now) (map (link_item (net_of network.now)) (net_of network.now).interfaces)) }
 {
     for link in network.interfaces.as_slice() {
         rules.push(rule_of(row, &link_item(network, *link)))?;
@@ -114,11 +119,11 @@ fn push_interfaces(rules: &mut Vec<Rule>, row: &Row, network: &Network) -> Resul
 fn push_ranges_at(
     rules: &mut Vec<Rule>,
     row: &Row,
-    network: &Network,
+    network: &StoredNetwork,
     link: u16,
 ) -> Result<(), AllocError>
     ensures { IfOk result (λ _. rules.new.items ≡ rules.old.items ++
-        map (rule_of row.now) (map (user_item network.now link) (ranges_of network.now.kind))) }
+        map (rule_of row.now) (map (user_item (net_of network.now) link) (ranges_of (net_of network.now).kind))) }
 {
     for range in network.kind.ranges() {
         rules.push(rule_of(row, &user_item(network, link, *range)))?;
@@ -127,10 +132,10 @@ fn push_ranges_at(
 }
 
 /// Appends a row's rules for each interface with each range.
-fn push_ranges(rules: &mut Vec<Rule>, row: &Row, network: &Network) -> Result<(), AllocError>
+fn push_ranges(rules: &mut Vec<Rule>, row: &Row, network: &StoredNetwork) -> Result<(), AllocError>
     ensures { IfOk result (λ _. rules.new.items ≡ rules.old.items ++ map (rule_of row.now)
-        (flat_map (λ link. map (user_item network.now link) (ranges_of network.now.kind))
-        network.now.interfaces)) }
+        (flat_map (λ link. map (user_item (net_of network.now) link) (ranges_of (net_of network.now).kind))
+        (net_of network.now).interfaces)) }
 {
     for link in network.interfaces.as_slice() {
         push_ranges_at(rules, row, network, *link)?;
@@ -142,12 +147,12 @@ fn push_ranges(rules: &mut Vec<Rule>, row: &Row, network: &Network) -> Result<()
 fn push_split(
     rules: &mut Vec<Rule>,
     row: &Row,
-    network: &Network,
+    network: &StoredNetwork,
     needs: Permission,
     links: &[u16],
 ) -> Result<(), AllocError>
     ensures { IfOk result (λ _. rules.new.items ≡ rules.old.items ++
-        map (rule_of row.now) (map (split_item network.now needs) links.now)) }
+        map (rule_of row.now) (map (split_item (net_of network.now) needs) links.now)) }
 {
     for link in links {
         rules.push(rule_of(row, &split_item(network, needs, *link)))?;
@@ -158,11 +163,11 @@ fn push_split(
 fn push_default(
     rules: &mut Vec<Rule>,
     row: &Row,
-    home: Option<&Network>,
-    network: &Network,
+    home: Option<&StoredNetwork>,
+    network: &StoredNetwork,
 ) -> Result<(), AllocError>
     ensures { IfOk result (λ _. rules.new.items ≡ rules.old.items ++
-        map (rule_of row.now) (items_in EachDefault (option_copied home.entry) network.now)) }
+        map (rule_of row.now) (items_in EachDefault (option_map (λ n. net_of n.now) home.entry) (net_of network.now))) }
 {
     match home {
         Some(home) => push_split(
@@ -181,11 +186,11 @@ fn push_part(
     rules: &mut Vec<Rule>,
     row: &Row,
     part: NetworkPart,
-    home: Option<&Network>,
-    network: &Network,
+    home: Option<&StoredNetwork>,
+    network: &StoredNetwork,
 ) -> Result<(), AllocError>
     ensures { IfOk result (λ _. rules.new.items ≡ rules.old.items ++
-        map (rule_of row.now) (items_in part (option_copied home.entry) network.now)) }
+        map (rule_of row.now) (items_in part (option_map (λ n. net_of n.now) home.entry) (net_of network.now))) }
 {
     match part {
         NetworkPart::Whole => {
@@ -205,9 +210,9 @@ fn push_networks(
     set: NetworkSet,
     part: NetworkPart,
     state: &State,
-    home: Option<&Network>,
+    home: Option<&StoredNetwork>,
 ) -> Result<(), AllocError>
-    requires home { option_copied home ≡ default_of state.now }
+    requires home { option_map (λ n. net_of n.now) home ≡ default_of state.now }
     ensures { IfOk result (λ _. rules.new.items ≡ rules.old.items ++ map (rule_of row.now) (flat_map
         (items_at set part state.now.default (default_of state.now)) state.now.networks)) }
 {
@@ -223,14 +228,12 @@ fn push_networks(
     Ok(())
 }
 
-fn push_lockdown(rules: &mut Vec<Rule>, row: &Row, lockdown: &RangeList) -> Result<(), AllocError>
+fn push_lockdown(rules: &mut Vec<Rule>, row: &Row, lockdown: &[UidRange]) -> Result<(), AllocError>
     ensures { IfOk result (λ _. rules.new.items ≡ rules.old.items ++
         map (rule_of row.now) (map range_item lockdown.now)) }
 {
-    for place in 0..lockdown.len() {
-        if let Some(range) = lockdown.at(place) {
-            rules.push(rule_of(row, &range_item(range)))?;
-        }
+    for range in lockdown {
+        rules.push(rule_of(row, &range_item(*range)))?;
     }
     Ok(())
 }
@@ -250,9 +253,9 @@ pub(crate) fn push_row(
     rules: &mut Vec<Rule>,
     row: &Row,
     state: &State,
-    home: Option<&Network>,
+    home: Option<&StoredNetwork>,
 ) -> Result<(), AllocError>
-    requires home { option_copied home ≡ default_of state.now }
+    requires home { option_map (λ n. net_of n.now) home ≡ default_of state.now }
     ensures { IfOk result (λ _. rules.new.items ≡ rules.old.items ++ rules_in state.now row.now) }
 {
     match row.per {

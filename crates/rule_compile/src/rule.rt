@@ -1,7 +1,7 @@
 //! The rule of an item, for any row.
 ghost use Rattle.std.specs.Prelude.{◌≡◌, ◌≤◌};
 ghost use Rattle.fwmark.specs.Selection.{net_mask, net_value, flag_mask, flag_value, mask_of, value_of};
-ghost use Rattle.networks.specs.declared.kind.Kind.{Kind};
+ghost use Rattle.network_store.specs.Stored.{kind_of};
 ghost use Rattle.policy_state.specs.Table.{
   stated,
   needed,
@@ -16,7 +16,7 @@ ghost use Rattle.policy_state.specs.Table.{
 };
 
 use fwmark::Permission;
-use networks::Kind;
+use network_store::StoredKind;
 use policy_state::{Item, OnlyUser, Row, Selector, Target};
 use rule_match::{Action, Rule};
 use uid_ranges::{Uid, UidRange};
@@ -46,12 +46,12 @@ fn link_table(link: u16) -> u32
 }
 
 /// The table that a network's routes by the link are in.
-pub(crate) fn table_of(kind: &Kind, link: u16) -> u32
-    ensures { result ≡ table_of kind.now link }
+pub(crate) fn table_of(kind: &StoredKind, link: u16) -> u32
+    ensures { result ≡ table_of (kind_of kind.now) link }
 {
     match kind {
-        Kind::Local => LOCAL_TABLE,
-        Kind::Physical { .. } | Kind::Virtual { .. } => link_table(link),
+        StoredKind::Local => LOCAL_TABLE,
+        StoredKind::Physical { .. } | StoredKind::Virtual { .. } => link_table(link),
     }
 }
 

@@ -1,6 +1,7 @@
 //! The whole table: row by row, and in a row with ranks rank by rank.
 ghost use Rattle.std.specs.Prelude.{◌≡◌, ◌==◌, ◌≤◌, ◌++◌, filter, flat_map, IfOk, OnOk};
-ghost use Rattle.std.specs.Option.{option_copied};
+ghost use Rattle.std.specs.Option.{option_map};
+ghost use Rattle.network_store.specs.Stored.{net_of};
 ghost use Rattle.rule_kinds.specs.Kind.{rule_kind};
 ghost use Rattle.rule_law.specs.Rules.{HasEachOnce};
 ghost use Rattle.policy_state.specs.Good.{IsGood};
@@ -8,7 +9,7 @@ ghost use Rattle.policy_state.specs.Rows.{default_of, numbers_from};
 ghost use Rattle.policy_state.specs.Table.{in_order, rules_in, rule_table};
 
 use crate::rows::push_row;
-use networks::Network;
+use network_store::StoredNetwork;
 use policy_state::{ROWS, Row, State, default_network};
 use rule_match::Rule;
 use std::alloc::{AllocError, Global};
@@ -48,10 +49,10 @@ fn push_in_order(
     rules: &mut Vec<Rule>,
     row: &Row,
     state: &State,
-    home: Option<&Network>,
+    home: Option<&StoredNetwork>,
 ) -> Result<(), AllocError>
     requires good { IsGood state.now }
-    requires home { option_copied home ≡ default_of state.now }
+    requires home { option_map (λ n. net_of n.now) home ≡ default_of state.now }
     ensures { IfOk result (λ _. rules.new.items ≡ rules.old.items ++
         in_order rule_kind (rules_in state.now row.now)) }
 {
@@ -69,10 +70,10 @@ fn push_rows(
     rules: &mut Vec<Rule>,
     rows: &[Row],
     state: &State,
-    home: Option<&Network>,
+    home: Option<&StoredNetwork>,
 ) -> Result<(), AllocError>
     requires good { IsGood state.now }
-    requires home { option_copied home ≡ default_of state.now }
+    requires home { option_map (λ n. net_of n.now) home ≡ default_of state.now }
     ensures { IfOk result (λ _. rules.new.items ≡ rules.old.items ++
         flat_map (λ row. in_order rule_kind (rules_in state.now row)) rows.now) }
 {

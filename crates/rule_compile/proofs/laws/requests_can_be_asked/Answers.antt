@@ -1,7 +1,7 @@
 use Rattle.rule_compile.proofs.Asking.{adds-absent, deletes-present, asked-distinct, one_kind}
 use Rattle.rule_compile.proofs.Asks.{asks}
 use Rattle.rule_compile.proofs.Forms.{adds-formed, deletes-formed}
-use Rattle.policy_state.proofs.Goodness.{good-changed}
+use Rattle.rule_compile.proofs.Tables.{after-good}
 use Rattle.rule_compile.proofs.laws.requests_can_be_asked.Goals as goal
 
 pub returns-clause-one_kind : goal.returns-clause-one_kind
@@ -18,6 +18,6 @@ returns-clause-distinct c = λ k s command may. asked-distinct k s command may (
 
 pub returns-clause-well_formed : goal.returns-clause-well_formed
 returns-clause-well_formed c = λ k s command may. (
-  adds-formed s command may.good (good-changed s command may.good may.fits may.accepted) (asks s command may.good may.accepted),
+  adds-formed s command may.good (after-good k s command may) (asks s command may.good may.accepted),
   deletes-formed s command may.good (asks s command may.good may.accepted),
 )

@@ -1,7 +1,9 @@
 use Rattle.std.proofs.Common.{◌≡◌, ◌<◌, ◌++◌, ◌+◌, ℕ, Bool, true, false, List, [], Some, Option, length, map, slice_get, ap, sym, ◌∙◌, arith, take}
 use Rattle.std.specs.Prelude.{flat_map, if◌then◌else◌}
-use Rattle.std.specs.Option.{option_copied}
+use Rattle.std.specs.Option.{option_map}
 use Rattle.std.proofs.lemmas.List.{append-nil}
+use Rattle.network_store.specs.Stored.{net_of}
+use Rattle.network_store.specs.Store.{nets_of}
 use Rattle.list_lemmas.proofs.Places.{slice_get-past, take-next}
 use Rattle.networks.specs.declared.network.Network.{Network}
 use Rattle.rule_match.specs.declared.rule.Rule.{Rule}
@@ -29,15 +31,15 @@ network_more row set part s home networks place n b front old new are is at pick
 pub loop-place-preserved : goal.loop-place-preserved
 loop-place-preserved c = elim c.match-at.branch [
   | in-Some+then-picks+in_ok-push_part w ↦
-      rw w.rules-is (network_more c.args.row.now c.args.set c.args.part c.args.state.now (option_copied c.args.home) c.networks-networks.result.now c.loop-place.place w.in-Some.network.now true
-      c.args.rules.now.items c.loop-place.rules.items _ c.networks-networks.ensures.value c.requires.home (sym c.at.ensures ∙ ap option_copied w.in-Some.is)
-      (ap (λ d. picks c.args.set d w.in-Some.network.now) (sym c.default_net-default.ensures) ∙ (sym w.picks.ensures ∙ w.if-picks.true)) c.loop-place.invariant w.in_ok-push_part.ensures)
+      rw w.rules-is (network_more c.args.row.now c.args.set c.args.part c.args.state.now (option_map (λ n. net_of n.now) c.args.home) (nets_of c.networks-networks.result.now) c.loop-place.place (net_of w.in-Some.network.now) true
+      c.args.rules.now.items c.loop-place.rules.items _ c.networks-networks.ensures.value c.requires.home (sym c.at.ensures ∙ ap (option_map (λ n. net_of n.now)) w.in-Some.is)
+      (ap (λ d. picks c.args.set d (net_of w.in-Some.network.now)) (sym c.default_net-default.ensures) ∙ (sym w.picks.ensures ∙ w.if-picks.true)) c.loop-place.invariant w.in_ok-push_part.ensures)
   | in-Some+else-picks w ↦
-      rw w.rules-is (network_more c.args.row.now c.args.set c.args.part c.args.state.now (option_copied c.args.home) c.networks-networks.result.now c.loop-place.place w.in-Some.network.now false
-      c.args.rules.now.items c.loop-place.rules.items _ c.networks-networks.ensures.value c.requires.home (sym c.at.ensures ∙ ap option_copied w.in-Some.is)
-      (ap (λ d. picks c.args.set d w.in-Some.network.now) (sym c.default_net-default.ensures) ∙ (sym w.picks.ensures ∙ w.if-picks.false)) c.loop-place.invariant (sym (append-nil _)))
+      rw w.rules-is (network_more c.args.row.now c.args.set c.args.part c.args.state.now (option_map (λ n. net_of n.now) c.args.home) (nets_of c.networks-networks.result.now) c.loop-place.place (net_of w.in-Some.network.now) false
+      c.args.rules.now.items c.loop-place.rules.items _ c.networks-networks.ensures.value c.requires.home (sym c.at.ensures ∙ ap (option_map (λ n. net_of n.now)) w.in-Some.is)
+      (ap (λ d. picks c.args.set d (net_of w.in-Some.network.now)) (sym c.default_net-default.ensures) ∙ (sym w.picks.ensures ∙ w.if-picks.false)) c.loop-place.invariant (sym (append-nil _)))
   | in_default w ↦
-      let past = slice_get-past c.networks-networks.result.now c.loop-place.place (sym c.at.ensures ∙ ap option_copied w.in_default.is) in
-      let within : c.loop-place.place < length c.networks-networks.result.now = omega (arith, c.loop-place-test.true, c.len-place-end.ensures) in
+      let past = slice_get-past (nets_of c.networks-networks.result.now) c.loop-place.place (sym c.at.ensures ∙ ap (option_map (λ n. net_of n.now)) w.in_default.is) in
+      let within : c.loop-place.place < length (nets_of c.networks-networks.result.now) = omega (arith, c.loop-place-test.true, c.len-place-end.ensures.count) in
       absurd (omega (arith, past, within))
 ]

@@ -1,6 +1,7 @@
 use Rattle.std.proofs.Common.{◌≡◌, ◌<◌, ◌+◌, ◌++◌, ℕ, List, length, get_or, take, map, ap, ◌∙◌, arith}
 use Rattle.std.specs.Prelude.{flat_map}
 use Rattle.std.proofs.lemmas.List.{take_more}
+use Rattle.network_store.specs.Stored.{net_of}
 use Rattle.networks.specs.Kinds.{ranges_of}
 use Rattle.networks.specs.declared.network.Network.{Network}
 use Rattle.rule_match.specs.declared.rule.Rule.{Rule}
@@ -21,5 +22,5 @@ ranges_more row n links i front old new are within was is =
 
 pub loop-link-preserved : goal.loop-link-preserved
 loop-link-preserved c =
-    ranges_more c.args.row.now c.args.network.now c.as_slice-link-items.result.now c.loop-link.link-index c.args.rules.now.items c.loop-link.rules.items _ c.as_slice-link-items.ensures
-    (omega (arith, c.loop-link-test.true, ap length c.as_slice-link-items.ensures)) c.loop-link.invariant c.in_ok-push_ranges_at.ensures
+    ranges_more c.args.row.now (net_of c.args.network.now) c.as_slice-link-items.result.now c.loop-link.link-index c.args.rules.now.items c.loop-link.rules.items _ c.as_slice-link-items.ensures.value
+    (omega (arith, c.loop-link-test.true, ap length c.as_slice-link-items.ensures.value)) c.loop-link.invariant c.in_ok-push_ranges_at.ensures
