@@ -2,17 +2,26 @@
 //! rules of one state to those of another.
 #![tactic(auto)]
 
+mod change_parts;
+mod change_routes;
+mod change_rules;
 mod difference;
-mod laws;
 mod going_routes;
+mod laws;
+mod part;
+mod plan_change;
 mod requests;
 mod routes;
 mod rows;
 mod rule;
+mod shape;
+mod shape_rows;
 mod start;
 mod table;
+mod touched;
 
 pub use laws::{plan_ends, plan_law, requests_can_be_asked, start_law, tables_are_lawful};
+pub use plan_change::plan_change;
 pub use requests::plan;
 pub use start::start_plan;
 pub use table::rules;
