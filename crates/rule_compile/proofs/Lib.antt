@@ -41,3 +41,4 @@ mod TouchedChanges
 mod TouchedApart
 mod TouchedPlans
 mod Unrouted
+mod TouchedRules

@@ -1,7 +1,8 @@
 //! What a change touches of a state.
-ghost use Rattle.std.specs.Prelude.{◌≡◌, ◌==◌, ◌∷◌, [], ℕ, true, false, filter, Some, None, IfOk};
+ghost use Rattle.std.specs.Prelude.{◌≡◌, ◌==◌, ◌∷◌, [], ℕ, filter, if◌then◌else◌, Some, None, IfOk};
 ghost use Rattle.std.specs.Option.{option_map};
-ghost use Rattle.network_store.specs.Stored.{net_of, bare_net};
+ghost use Rattle.network_store.specs.Store.{nets_of};
+ghost use Rattle.network_store.specs.Stored.{net_of};
 ghost use Rattle.networks.specs.Network.{has_link};
 ghost use Rattle.networks.specs.declared.network.Network.{Network};
 ghost use Rattle.policy_state.specs.Rows.{default_of, default_among};
@@ -16,7 +17,7 @@ use crate::part::Extent;
 use crate::shape::Shape;
 use crate::touched::{Touched, untouched};
 use fwmark::Permission;
-use network_store::StoredNetwork;
+use network_store::{StoredNetwork, StoredNetworks};
 use policy_state::{NetworkSet, State, TetherPair, default_network, picks};
 use std::alloc::{AllocError, Global};
 use uid_ranges::{Ranked, UidRange};
@@ -52,6 +53,18 @@ pub(crate) fn new_part<'a>(state: &'a State, network: Shape<'a>) -> Touched<'a>
     }
 }
 
+/// Whose split rules go with the network, where it isn't the network alone: with the default one those of all VPNs.
+fn others_of<'a>(state: &'a State, network: &StoredNetwork) -> Option<&'a StoredNetworks>
+    ensures { option_map (λ networks. nets_of networks.now) result ≡
+        (if parts.is_home state.now (net_of network.now) then Some state.now.networks else None) }
+{
+    if is_home(state, network) {
+        Some(state.networks())
+    } else {
+        None
+    }
+}
+
 /// A network that goes, with these pairs.
 pub(crate) fn gone_part<'a>(
     state: &'a State,
@@ -61,13 +74,8 @@ pub(crate) fn gone_part<'a>(
     requires { pairs.now ≡ filter (λ p. has_link (net_of network.now) p.out) state.now.pairs }
     ensures { part_of result ≡ unrouted_part (parts.gone_part state.now (net_of network.now)) }
 {
-    let others = if is_home(state, network) {
-        Some(state.networks())
-    } else {
-        None
-    };
     Touched {
-        others,
+        others: others_of(state, network),
         pairs,
         ..new_part(state, Shape::of(network))
     }
