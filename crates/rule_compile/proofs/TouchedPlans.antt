@@ -15,7 +15,7 @@ use Rattle.policy_state.specs.Change.{turned, Fits}
 use Rattle.policy_state.specs.Good.{IsWellFormed}
 use Rattle.policy_state.specs.Routed.{is_routed, NamesRoutes}
 use Rattle.policy_state.specs.Step.{changed, is_in, route_of, key_of}
-use Rattle.policy_state.specs.Table.{rule_table, table_of}
+use Rattle.policy_state.specs.Table.{rule_table, table_of, in_order}
 use Rattle.policy_state.specs.View.{StateView, link_named}
 use Rattle.policy_state.specs.declared.change.Change.{Change}
 use Rattle.policy_state.specs.declared.change.Change.TheVariants as change
@@ -30,6 +30,7 @@ use Rattle.rule_kinds.specs.Kind.{rule_kind}
 use Rattle.rule_compile.specs.Asked.{asked, asked_adds, asked_deletes, of_interface, keyed_in, leaving_by, shortest_first, routes_come, routes_gone, routes_first}
 use Rattle.rule_compile.specs.Planned.{routes_of_net, change_comes, change_goes, change_goes_first, rules_come, rules_go, planned}
 use Rattle.rule_compile.specs.Touched.{go_part, come_part}
+use Rattle.rule_compile.proofs.TouchedApart.{changes-apart, apart-beyond, apart-turned}
 use Rattle.rule_compile.proofs.TouchedChanges.{touched-cut}
 use Rattle.rule_compile.proofs.TouchedTables.{table-beyond, turned-back}
 
@@ -182,11 +183,14 @@ module _ (s : StateView) (formed : IsWellFormed s) where
 
   module _ (c : Change) (fits : Fits c s) (formed_after : IsWellFormed (turned c s)) where
     pub come-is : additions (rule_table s) (rule_table (turned c s)) ≡ twins (rules_come s c)
-    come-is = ap twins (table-beyond s (turned c s) (go_part s c) (come_part s c) formed_after (touched-cut c s formed fits))
+    come-is = ap twins (
+        table-beyond s (turned c s) (go_part s c) (come_part s c) formed_after (touched-cut c s formed fits)
+        ∙ ap (in_order rule_kind) (apart-beyond (go_part s c) (come_part s c) (changes-apart c s formed)))
 
     pub go-is : (gone : List (ℕ × Route)) → deletions (rule_table s) (rule_table (turned c s)) gone ≡ reverse (twins (rules_go s c)) ++ requests_of gone
     go-is gone = ap (λ rules. reverse (twins rules) ++ requests_of gone)
-        (table-beyond (turned c s) s (come_part s c) (go_part s c) formed (turned-back s (turned c s) (go_part s c) (come_part s c) (touched-cut c s formed fits)))
+        (table-beyond (turned c s) s (come_part s c) (go_part s c) formed (turned-back s (turned c s) (go_part s c) (come_part s c) (touched-cut c s formed fits))
+        ∙ ap (in_order rule_kind) (apart-beyond (come_part s c) (go_part s c) (apart-turned (go_part s c) (come_part s c) (changes-apart c s formed))))
 
     -- the plan by the part that is touched is the one that is asked
     pub planned-is : (command : Command) → NamesRoutes c s command → turned c s ≡ changed s command → planned s c ≡ asked s command

@@ -11,7 +11,6 @@ use Rattle.policy_state.specs.declared.change.Change.{Change}
 use Rattle.policy_state.specs.declared.change.Change.TheVariants as change
 use Rattle.prefixes.specs.declared.route.Route.{Route}
 use Rattle.rule_kinds.specs.Kind.{rule_kind}
-use Rattle.rule_law.specs.Plans.{beyond}
 use Rattle.rule_match.specs.declared.rule.Rule.{Rule}
 use Rattle.rule_compile.specs.Asked.{keyed_in, leaving_by}
 use Rattle.rule_compile.specs.Touched.{part_rules, go_part, come_part}
@@ -38,10 +37,10 @@ change_goes_first s _ = []
 
 -- the rules that come and the rules that go, in order of priority
 abbrev pub rules_come : StateView → Change → List Rule
-rules_come s c = in_order rule_kind (beyond rule_kind (part_rules (go_part s c)) (part_rules (come_part s c)))
+rules_come s c = in_order rule_kind (part_rules (come_part s c))
 
 abbrev pub rules_go : StateView → Change → List Rule
-rules_go s c = in_order rule_kind (beyond rule_kind (part_rules (come_part s c)) (part_rules (go_part s c)))
+rules_go s c = in_order rule_kind (part_rules (go_part s c))
 
 abbrev pub planned : StateView → Change → PlanView
 planned s c = record {

@@ -10,11 +10,9 @@ ghost use Rattle.policy_state.specs.Table.{in_order};
 ghost use Rattle.rule_compile.specs.Asked.{asked};
 ghost use Rattle.rule_compile.specs.Planned.{planned};
 ghost use Rattle.rule_kinds.specs.Kind.{rule_kind};
-ghost use Rattle.rule_law.specs.Plans.{beyond};
 
 use crate::change_routes::{routes_that_come, routes_that_go, routes_that_go_first};
 use crate::change_rules::{rules_that_come, rules_that_go};
-use crate::difference::beyond;
 use crate::requests::twins;
 use crate::touched::put_in_order;
 use kernel_model::{Plan, Request};
@@ -22,34 +20,34 @@ use policy_state::{Change, State};
 use rule_match::Rule;
 use std::alloc::{AllocError, Global};
 
-/// The rules that the other list lacks, in order of priority, each for IPv4 and then for IPv6.
-fn requests_beyond(
-    alloc: Global,
-    other: &[Rule],
-    rules: &[Rule],
-) -> Result<Vec<Request>, AllocError>
-    ensures { IfOk result (λ requests. requests.items ≡
-        twins (in_order rule_kind (beyond rule_kind other.now rules.now))) }
+/// The rules in order of priority, each for IPv4 and then for IPv6.
+fn requests_in_order(alloc: Global, rules: &mut Vec<Rule>) -> Result<Vec<Request>, AllocError>
+    ensures { IfOk result (λ requests. requests.items ≡ twins (in_order rule_kind rules.old.items)) }
 {
-    let mut lacking = beyond(alloc, other, rules)?;
-    put_in_order(&mut lacking)?;
-    twins(alloc, &lacking)
+    put_in_order(rules)?;
+    twins(alloc, rules)
 }
 
 /// The plan by the part of the state that the change touches.
 fn planned(alloc: Global, state: &State, change: &Change) -> Result<Plan, AllocError>
     ensures { IfOk result (λ plan. plan ≡ planned state.now change.now) }
 {
-    let going = rules_that_go(alloc, state, change)?;
-    let coming = rules_that_come(alloc, state, change)?;
-    let mut adds = requests_beyond(alloc, &going, &coming)?;
+    let mut coming = rules_that_come(alloc, state, change)?;
+    let mut adds = requests_in_order(alloc, &mut coming)?;
     adds.extend_from_slice(&routes_that_come(alloc, state, change)?)?;
-    let mut gone = requests_beyond(alloc, &coming, &going)?;
+    let mut going = rules_that_go(alloc, state, change)?;
+    let mut gone = requests_in_order(alloc, &mut going)?;
     gone.reverse();
     let mut deletes = routes_that_go_first(alloc, state, change)?;
     deletes.extend_from_slice(&gone)?;
     deletes.extend_from_slice(&routes_that_go(alloc, state, change)?)?;
     Ok(Plan::of(adds, deletes))
+}
+
+fn goodness(state: &State)
+    ensures { IsGood state.now }
+{
+    state.networks();
 }
 
 /// What a kernel that stands for the state is asked, in order, so that it stands for the state after the change. Neither the
@@ -63,5 +61,6 @@ pub fn plan_change(alloc: Global, state: &State, change: &Change) -> Result<Plan
         → turned change.now state.now ≡ changed state.now command
         → IfOk result (λ plan. plan ≡ asked state.now command) }
 {
+    goodness(state);
     planned(alloc, state, change)
 }
