@@ -20,7 +20,7 @@ use Rattle.policy_state.specs.Table.{table_of}
 use Rattle.policy_state.specs.View.{StateView}
 use Rattle.policy_state.proofs.GoodStates.{each-has}
 use Rattle.policy_state.proofs.Owners.{Has, any-from}
-use Rattle.rule_compile.specs.Asked.{keyed_in}
+use Rattle.rule_compile.specs.Asked.{keyed_in, leaving_by, shortest_first}
 use Rattle.rule_compile.proofs.Defaults.{Found, of_find}
 use Rattle.rule_compile.proofs.RouteTables.{OneOfKey, one_of_key, keyed-routes, has_filtered, in_by}
 
@@ -91,3 +91,9 @@ keys-once s good net link n found =
     let there : Found (λ (n : Network). net == n.id) s.networks n = of_find (λ (n : Network). net == n.id) s.networks n found in
     let it : IsNetwork n = each-has IsNetwork s.networks n good.formed.networks.each there.there in
     it.keys_distinct link
+
+-- an interface's routes, once they are sorted
+pub leaving-is : (n : Network) (link table : ℕ) (routes sorted own : List Route) → table ≡ table_of n.kind link → own ≡ routes_by link n.routes → sorted ≡ shortest_first own → routes ≡ sorted
+    → map {B = ℕ × Route} (λ (r : Route). (table, r)) routes ≡ leaving_by n link
+leaving-is n link table routes sorted own at of_link shortest same =
+    ap (λ t. map {B = ℕ × Route} (λ (r : Route). (t, r)) routes) at ∙ ap (map {B = ℕ × Route} (λ (r : Route). (table_of n.kind link, r))) (same ∙ (shortest ∙ ap shortest_first of_link))
