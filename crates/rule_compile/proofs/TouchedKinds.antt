@@ -161,18 +161,18 @@ module _ (s : StateView) (formed : IsWellFormed s) (net link : ℕ) (n : Network
 
   pub link-comes : has_link n link ≡ false → IsCut s (with_net net (with_link link) s) no_part (link_part s n link)
   link-comes lacks = net-cut s formed net n at (with_link link) no_part (link_part s n link) s.pairs (record {
-      stay = λ pick spread. own pick spread s.default n;
-      of_old = λ pick spread plain. cut-none (own pick spread s.default n) (part_items (EachOf pick spread) no_part) (own pick spread s.default n) (nothing-of s formed net n at (with_link link) pick spread plain) refl;
-      of_new = λ pick spread plain. subst (λ (m : Network). Cut (own pick spread s.default n) (part_items (EachOf pick spread) (link_part s n link)) (own pick spread s.default m)) (sym grown)
-          (own-links s n link n.interfaces (n.interfaces ++ link ∷ []) n.routes n.routes (cut-behind n.interfaces (link ∷ [])) pick spread plain);
-      split = items (EachOf OfVirtual EachDefault) s;
-      split_old = all-stay (items (EachOf OfVirtual EachDefault) s);
-      split_new = split (is_home s n) refl;
-      pairs_stay = s.pairs;
-      pairs_old = all-stay s.pairs;
-      pairs_new = all-stay s.pairs;
-      no_lockdown = (refl, refl);
-    })
+    stay = λ pick spread. own pick spread s.default n;
+    of_old = λ pick spread plain. cut-none (own pick spread s.default n) (part_items (EachOf pick spread) no_part) (own pick spread s.default n) (nothing-of s formed net n at (with_link link) pick spread plain) refl;
+    of_new = λ pick spread plain. subst (λ (m : Network). Cut (own pick spread s.default n) (part_items (EachOf pick spread) (link_part s n link)) (own pick spread s.default m)) (sym grown)
+        (own-links s n link n.interfaces (n.interfaces ++ link ∷ []) n.routes n.routes (cut-behind n.interfaces (link ∷ [])) pick spread plain);
+    split = items (EachOf OfVirtual EachDefault) s;
+    split_old = all-stay (items (EachOf OfVirtual EachDefault) s);
+    split_new = split (is_home s n) refl;
+    pairs_stay = s.pairs;
+    pairs_old = all-stay s.pairs;
+    pairs_new = all-stay s.pairs;
+    no_lockdown = (refl, refl);
+  })
     where
       grown : with_link link n ≡ with_links n (n.interfaces ++ link ∷ []) n.routes
       grown = rw lacks refl
@@ -197,18 +197,18 @@ module _ (s : StateView) (formed : IsWellFormed s) (net link : ℕ) (n : Network
   pub link-goes : Has n.interfaces link
       → IsCut s (record (with_net net (without_link link) s) { pairs = filter (λ p. not (p.out == link)) s.pairs }) (record (link_part s n link) { pairs = filter (λ p. p.out == link) s.pairs }) no_part
   link-goes there = net-cut s formed net n at (without_link link) (record (link_part s n link) { pairs = filter (λ p. p.out == link) s.pairs }) no_part (filter (λ p. not (p.out == link)) s.pairs) (record {
-      stay = λ pick spread. own pick spread s.default (without_link link n);
-      of_old = λ pick spread plain. old pick spread plain (own-links s n link (without_link link n).interfaces n.interfaces (without_link link n).routes n.routes thinned pick spread plain);
-      of_new = λ pick spread plain. cut-none (own pick spread s.default (without_link link n)) (part_items (EachOf pick spread) no_part) (own pick spread s.default (without_link link n))
-          (nothing-of s formed net n at (without_link link) pick spread plain) refl;
-      split = items (EachOf OfVirtual EachDefault) (after s formed net n at (without_link link) (filter (λ p. not (p.out == link)) s.pairs));
-      split_old = split (is_home s n) refl;
-      split_new = all-stay (items (EachOf OfVirtual EachDefault) (after s formed net n at (without_link link) (filter (λ p. not (p.out == link)) s.pairs)));
-      pairs_stay = filter (λ p. not (p.out == link)) s.pairs;
-      pairs_old = cut-filter (λ (p : TetherPair). p.out == link) s.pairs;
-      pairs_new = all-stay (filter (λ p. not (p.out == link)) s.pairs);
-      no_lockdown = (refl, refl);
-    })
+    stay = λ pick spread. own pick spread s.default (without_link link n);
+    of_old = λ pick spread plain. old pick spread plain (own-links s n link (without_link link n).interfaces n.interfaces (without_link link n).routes n.routes thinned pick spread plain);
+    of_new = λ pick spread plain. cut-none (own pick spread s.default (without_link link n)) (part_items (EachOf pick spread) no_part) (own pick spread s.default (without_link link n))
+        (nothing-of s formed net n at (without_link link) pick spread plain) refl;
+    split = items (EachOf OfVirtual EachDefault) (after s formed net n at (without_link link) (filter (λ p. not (p.out == link)) s.pairs));
+    split_old = split (is_home s n) refl;
+    split_new = all-stay (items (EachOf OfVirtual EachDefault) (after s formed net n at (without_link link) (filter (λ p. not (p.out == link)) s.pairs)));
+    pairs_stay = filter (λ p. not (p.out == link)) s.pairs;
+    pairs_old = cut-filter (λ (p : TetherPair). p.out == link) s.pairs;
+    pairs_new = all-stay (filter (λ p. not (p.out == link)) s.pairs);
+    no_lockdown = (refl, refl);
+  })
     where
       thinned : Cut (filter (λ i. not (i == link)) n.interfaces) (link ∷ []) n.interfaces
       thinned =

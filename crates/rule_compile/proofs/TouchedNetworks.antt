@@ -75,7 +75,7 @@ module _ (net : ℕ) where
     | inl here ↦
         let is : m ≡ n = one.alone m (inl refl) here in
         let others : (k : Network) → Has ms k → (net == k.id) ≡ false = λ k in_k.
-            false_from_ne_true (net == k.id) (λ same. once.0 (subst (λ (j : Network). Has ms j) (one.alone k (inr in_k) same ∙ sym is) in_k)) in
+        false_from_ne_true (net == k.id) (λ same. once.0 (subst (λ (j : Network). Has ms j) (one.alone k (inr in_k) same ∙ sym is) in_k)) in
         rw here (subst (λ xs. Cut (stay ++ xs) part (f m ++ flat_map f ms)) (sym (but-others f stay ms others))
         (cut-before stay part (f m) (subst (λ (j : Network). Cut stay part (f j)) (sym is) cut) (flat_map f ms)))
     | inr other ↦

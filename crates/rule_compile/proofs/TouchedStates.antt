@@ -349,10 +349,10 @@ module _ (s : StateView) (formed : IsWellFormed s) where
       → Cut ranges_stay ranges_gone s.lockdown → Cut ranges_stay ranges_come lockdown → Cut pairs_stay pairs_gone s.pairs → Cut pairs_stay pairs_come pairs
       → IsCut s (record s { lockdown = lockdown; pairs = pairs }) (record no_part { lockdown = ranges_gone; pairs = pairs_gone }) (record no_part { lockdown = ranges_come; pairs = pairs_come })
   lists-cut lockdown ranges_stay ranges_gone ranges_come pairs pairs_stay pairs_gone pairs_come a b c d = record {
-      stay = stay;
-      of_old = λ per plain. by per s.lockdown ranges_gone s.pairs pairs_gone a c;
-      of_new = λ per plain. by per lockdown ranges_come pairs pairs_come b d;
-    }
+    stay = stay;
+    of_old = λ per plain. by per s.lockdown ranges_gone s.pairs pairs_gone a c;
+    of_new = λ per plain. by per lockdown ranges_come pairs pairs_come b d;
+  }
     where
       stay : OnePer → List Item
       stay OncePer = nothing ∷ []

@@ -78,42 +78,42 @@ module _ (s : StateView) (formed : IsWellFormed s) (net : ℕ) (n : Network) (at
 
   pub ranges-come : (rank : ℕ) (more : List UidRange) → IsCut s (with_net net (with_ranges rank more) s) no_part (ranges_part s n (all_at rank more))
   ranges-come rank more = net-cut s formed net n at (with_ranges rank more) no_part (ranges_part s n (all_at rank more)) s.pairs (record {
-      stay = λ pick spread. own pick spread s.default n;
-      of_old = λ pick spread plain. cut-none (own pick spread s.default n) (part_items (EachOf pick spread) no_part) (own pick spread s.default n) (nothing-of s formed net n at (with_ranges rank more) pick spread plain) refl;
-      of_new = λ pick spread plain.
-          subst (λ (m : Network). Cut (own pick spread s.default n) (part_items (EachOf pick spread) (ranges_part s n (all_at rank more))) (own pick spread s.default m)) (sym is)
-          (subst (λ (m : Network). Cut (own pick spread s.default m) (part_items (EachOf pick spread) (ranges_part s n (all_at rank more))) (own pick spread s.default (with_ranges_alone (ranges_of n.kind ++ all_at rank more) n))) (sym itself)
-          (own-ranges s n (ranges_of n.kind) (all_at rank more) (ranges_of n.kind ++ all_at rank more) (cut-behind (ranges_of n.kind) (all_at rank more)) pick spread plain));
-      split = items (EachOf OfVirtual EachDefault) s;
-      split_old = all-stay (items (EachOf OfVirtual EachDefault) s);
-      split_new = cut-none (items (EachOf OfVirtual EachDefault) s) (part_items (EachOf OfVirtual EachDefault) (ranges_part s n (all_at rank more))) (items (EachOf OfVirtual EachDefault) (with_net net (with_ranges rank more) s))
-          (part-split (all_at rank more)) (sym (split-kept (with_ranges rank more) (ranges_of n.kind ++ all_at rank more) is));
-      pairs_stay = s.pairs;
-      pairs_old = all-stay s.pairs;
-      pairs_new = all-stay s.pairs;
-      no_lockdown = (refl, refl);
-    })
+    stay = λ pick spread. own pick spread s.default n;
+    of_old = λ pick spread plain. cut-none (own pick spread s.default n) (part_items (EachOf pick spread) no_part) (own pick spread s.default n) (nothing-of s formed net n at (with_ranges rank more) pick spread plain) refl;
+    of_new = λ pick spread plain.
+        subst (λ (m : Network). Cut (own pick spread s.default n) (part_items (EachOf pick spread) (ranges_part s n (all_at rank more))) (own pick spread s.default m)) (sym is)
+        (subst (λ (m : Network). Cut (own pick spread s.default m) (part_items (EachOf pick spread) (ranges_part s n (all_at rank more))) (own pick spread s.default (with_ranges_alone (ranges_of n.kind ++ all_at rank more) n))) (sym itself)
+        (own-ranges s n (ranges_of n.kind) (all_at rank more) (ranges_of n.kind ++ all_at rank more) (cut-behind (ranges_of n.kind) (all_at rank more)) pick spread plain));
+    split = items (EachOf OfVirtual EachDefault) s;
+    split_old = all-stay (items (EachOf OfVirtual EachDefault) s);
+    split_new = cut-none (items (EachOf OfVirtual EachDefault) s) (part_items (EachOf OfVirtual EachDefault) (ranges_part s n (all_at rank more))) (items (EachOf OfVirtual EachDefault) (with_net net (with_ranges rank more) s))
+        (part-split (all_at rank more)) (sym (split-kept (with_ranges rank more) (ranges_of n.kind ++ all_at rank more) is));
+    pairs_stay = s.pairs;
+    pairs_old = all-stay s.pairs;
+    pairs_new = all-stay s.pairs;
+    no_lockdown = (refl, refl);
+  })
     where
       is : with_ranges rank more n ≡ with_ranges_alone (ranges_of n.kind ++ all_at rank more) n
       is = ap (λ k. record n { kind = k }) (kind-more rank more n.kind)
 
   pub ranges-go : (gone : List UidRange) → IsCut s (with_net net (without_ranges gone) s) (ranges_part s n (filter (λ r. has gone r.users) (ranges_of n.kind))) no_part
   ranges-go gone = net-cut s formed net n at (without_ranges gone) (ranges_part s n going) no_part s.pairs (record {
-      stay = λ pick spread. own pick spread s.default (without_ranges gone n);
-      of_old = λ pick spread plain.
-          subst (λ (m : Network). Cut (own pick spread s.default m) (part_items (EachOf pick spread) (ranges_part s n going)) (own pick spread s.default n)) (sym is)
-          (subst (λ (m : Network). Cut (own pick spread s.default (with_ranges_alone (ranked_without (ranges_of n.kind) gone) n)) (part_items (EachOf pick spread) (ranges_part s n going)) (own pick spread s.default m)) (sym itself)
-          (own-ranges s n (ranked_without (ranges_of n.kind) gone) going (ranges_of n.kind) (cut-filter (λ (r : Ranked). has gone r.users) (ranges_of n.kind)) pick spread plain));
-      of_new = λ pick spread plain. cut-none (own pick spread s.default (without_ranges gone n)) (part_items (EachOf pick spread) no_part) (own pick spread s.default (without_ranges gone n))
-          (nothing-of s formed net n at (without_ranges gone) pick spread plain) refl;
-      split = items (EachOf OfVirtual EachDefault) s;
-      split_old = cut-none (items (EachOf OfVirtual EachDefault) s) (part_items (EachOf OfVirtual EachDefault) (ranges_part s n going)) (items (EachOf OfVirtual EachDefault) s) (part-split going) refl;
-      split_new = cut-none (items (EachOf OfVirtual EachDefault) s) [] (items (EachOf OfVirtual EachDefault) (with_net net (without_ranges gone) s)) refl (sym (split-kept (without_ranges gone) (ranked_without (ranges_of n.kind) gone) is));
-      pairs_stay = s.pairs;
-      pairs_old = all-stay s.pairs;
-      pairs_new = all-stay s.pairs;
-      no_lockdown = (refl, refl);
-    })
+    stay = λ pick spread. own pick spread s.default (without_ranges gone n);
+    of_old = λ pick spread plain.
+        subst (λ (m : Network). Cut (own pick spread s.default m) (part_items (EachOf pick spread) (ranges_part s n going)) (own pick spread s.default n)) (sym is)
+        (subst (λ (m : Network). Cut (own pick spread s.default (with_ranges_alone (ranked_without (ranges_of n.kind) gone) n)) (part_items (EachOf pick spread) (ranges_part s n going)) (own pick spread s.default m)) (sym itself)
+        (own-ranges s n (ranked_without (ranges_of n.kind) gone) going (ranges_of n.kind) (cut-filter (λ (r : Ranked). has gone r.users) (ranges_of n.kind)) pick spread plain));
+    of_new = λ pick spread plain. cut-none (own pick spread s.default (without_ranges gone n)) (part_items (EachOf pick spread) no_part) (own pick spread s.default (without_ranges gone n))
+        (nothing-of s formed net n at (without_ranges gone) pick spread plain) refl;
+    split = items (EachOf OfVirtual EachDefault) s;
+    split_old = cut-none (items (EachOf OfVirtual EachDefault) s) (part_items (EachOf OfVirtual EachDefault) (ranges_part s n going)) (items (EachOf OfVirtual EachDefault) s) (part-split going) refl;
+    split_new = cut-none (items (EachOf OfVirtual EachDefault) s) [] (items (EachOf OfVirtual EachDefault) (with_net net (without_ranges gone) s)) refl (sym (split-kept (without_ranges gone) (ranked_without (ranges_of n.kind) gone) is));
+    pairs_stay = s.pairs;
+    pairs_old = all-stay s.pairs;
+    pairs_new = all-stay s.pairs;
+    no_lockdown = (refl, refl);
+  })
     where
       going : List Ranked
       going = filter (λ r. has gone r.users) (ranges_of n.kind)

@@ -100,7 +100,11 @@ pub(crate) fn link_part<'a>(
         extent: Extent::Links,
         network: Some(shape),
         default: state.default_net(),
-        home: if is_home(state, network) { Some(shape) } else { None },
+        home: if is_home(state, network) {
+            Some(shape)
+        } else {
+            None
+        },
         others: Some(state.networks()),
         pairs,
         ..untouched()
@@ -145,7 +149,11 @@ pub(crate) fn asking_part<'a>(
     Touched {
         network: Some(shape),
         default: state.default_net(),
-        home: if is_home(state, network) { Some(shape) } else { None },
+        home: if is_home(state, network) {
+            Some(shape)
+        } else {
+            None
+        },
         others: Some(state.networks()),
         ..untouched()
     }

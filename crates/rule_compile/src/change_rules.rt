@@ -50,10 +50,7 @@ fn virtual_comes(
 {
     let network = Shape {
         id: net,
-        kind: ShapeKind::Virtual {
-            secure,
-            users: &[],
-        },
+        kind: ShapeKind::Virtual { secure, users: &[] },
         links: &[],
     };
     touched_rules(alloc, &new_part(state, network))
@@ -173,7 +170,10 @@ fn permission_goes(
     if !asks_other(network, permission) {
         return Ok(Vec::new(alloc));
     }
-    touched_rules(alloc, &asking_part(state, network, network.kind.permission()))
+    touched_rules(
+        alloc,
+        &asking_part(state, network, network.kind.permission()),
+    )
 }
 
 /// And with the one that it gets.
