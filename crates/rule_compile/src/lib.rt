@@ -3,13 +3,14 @@
 #![tactic(auto)]
 
 mod change_parts;
+mod change_plan;
 mod change_routes;
 mod change_rules;
 mod difference;
 mod going_routes;
 mod laws;
 mod part;
-mod plan_change;
+
 mod requests;
 mod routes;
 mod rows;
@@ -21,7 +22,7 @@ mod table;
 mod touched;
 
 pub use laws::{plan_ends, plan_law, requests_can_be_asked, start_law, tables_are_lawful};
-pub use plan_change::plan_change;
+pub use change_plan::plan_change;
 pub use requests::plan;
 pub use start::start_plan;
 pub use table::rules;

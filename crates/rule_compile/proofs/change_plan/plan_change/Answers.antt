@@ -1,7 +1,7 @@
 use Rattle.std.proofs.Common.{◌∙◌}
 use Rattle.std.proofs.lemmas.Result.{IfOk-weaker}
 use Rattle.rule_compile.proofs.TouchedPlans.{planned-is}
-use Rattle.rule_compile.proofs.plan_change.plan_change.Goals as goal
+use Rattle.rule_compile.proofs.change_plan.plan_change.Goals as goal
 
 pub returns : goal.returns
 returns c command names same =
