@@ -10,7 +10,6 @@ mod difference;
 mod going_routes;
 mod laws;
 mod part;
-
 mod requests;
 mod routes;
 mod rows;
@@ -21,8 +20,8 @@ mod start;
 mod table;
 mod touched;
 
-pub use laws::{plan_ends, plan_law, requests_can_be_asked, start_law, tables_are_lawful};
 pub use change_plan::plan_change;
+pub use laws::{plan_ends, plan_law, requests_can_be_asked, start_law, tables_are_lawful};
 pub use requests::plan;
 pub use start::start_plan;
 pub use table::rules;
