@@ -1,12 +1,11 @@
 -- No rule looks in the table of a link that is an interface of no network and the output of no tether pair.
-use Rattle.std.proofs.Common.{◌≡◌, ◌∙◌, ◌==◌, ◌&&◌, ◌≤◌, ◌+◌, ℕ, Bool, true, false, not, Option, Some, None, List, [], ◌∷◌, refl, sym, ap, subst, inl, inr, map, filter, arith}
-use Rattle.std.specs.Prelude.{◌⊎◌, if◌then◌else◌}
-use Rattle.std.specs.List.{AllByRecursion, list_any}
+use Rattle.std.proofs.Common.{◌≡◌, ◌∙◌, ◌==◌, ◌&&◌, ◌≤◌, ◌+◌, ℕ, Bool, true, false, not, Option, Some, None, List, [], ◌∷◌, refl, sym, ap, subst, inl, inr, arith}
+use Rattle.std.specs.Prelude.{◌⊎◌}
+use Rattle.std.specs.List.{list_any}
 use Rattle.std.proofs.lemmas.Bool.{cases_Bool, false≢true, false_from_ne_true, eqb-true, eq-eqb}
 use Rattle.list_lemmas.proofs.Numbers.{eqb-refl}
 use Rattle.networks.specs.Kinds.{class_of}
 use Rattle.networks.specs.Lists.{find_id}
-use Rattle.networks.specs.Network.{has_link}
 use Rattle.networks.specs.declared.network.Network.{Network}
 use Rattle.prefixes.specs.declared.route.Route.{Route}
 use Rattle.rule_kinds.specs.Kind.{rule_kind}
@@ -19,7 +18,7 @@ use Rattle.kernel_model.specs.Switch.{looks_in, AreUnused}
 use Rattle.policy_state.specs.Good.{IsWellFormed}
 use Rattle.policy_state.specs.Rows.{is_default, default_of, links_of, items_in, items, range_item, pair_item}
 use Rattle.policy_state.specs.Step.{is_in, without_net}
-use Rattle.policy_state.specs.Table.{leads_to, rule_of, rule_table, rows}
+use Rattle.policy_state.specs.Table.{leads_to, rule_table, rows}
 use Rattle.policy_state.specs.View.{StateView}
 use Rattle.policy_state.specs.declared.row.Item.{Item}
 use Rattle.policy_state.specs.declared.row.NetworkPart.{NetworkPart}

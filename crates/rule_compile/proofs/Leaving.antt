@@ -1,17 +1,15 @@
 -- The routes of an interface or of a network that leaves: each is a route of the state, none comes twice, and each table loses
 -- exactly those of its number.
-use Rattle.std.proofs.Common.{◌≡◌, ◌∙◌, ◌==◌, ◌&&◌, ◌≤◌, ◌<◌, ◌+◌, ℕ, zero, suc, Bool, true, false, not, cond, Option, Some, None, List, [], ◌∷◌, ◌++◌, refl, sym, ap, ap₂, subst, inl, inr, map, filter, arith}
-use Rattle.std.specs.Prelude.{flat_map, ◌⊎◌, ◌≢◌, if◌then◌else◌}
+use Rattle.std.proofs.Common.{◌≡◌, ◌∙◌, ◌==◌, ◌&&◌, ◌≤◌, ◌<◌, ◌+◌, ℕ, zero, suc, Bool, true, false, not, cond, Some, List, [], ◌∷◌, ◌++◌, refl, sym, ap, ap₂, subst, inl, inr, map, filter, arith}
+use Rattle.std.specs.Prelude.{flat_map, ◌≢◌, if◌then◌else◌}
 use Rattle.std.specs.List.{AllByRecursion}
 use Rattle.std.proofs.lemmas.Bool.{cases_Bool, false≢true, false_from_ne_true, and_parts, not-true, eqb-true, eq-eqb}
-use Rattle.std.proofs.lemmas.List.{map-append}
 use Rattle.std.proofs.lemmas.List.Elements.{filter-append}
 use Rattle.list_lemmas.proofs.Numbers.{eqb-refl}
 use Rattle.fib_table.specs.Table.{has_route, has_key, are_keys_distinct, routes_in}
 use Rattle.fib_table.proofs.Tables.{routes_in-append}
 use Rattle.networks.specs.Kinds.{is_local}
 use Rattle.networks.specs.Network.{routes_by}
-use Rattle.networks.specs.declared.kind.Kind.{Kind}
 use Rattle.networks.specs.declared.network.LinkRoute.{LinkRoute}
 use Rattle.networks.specs.declared.network.Network.{Network}
 use Rattle.prefixes.specs.Addr.{width_of}
@@ -23,7 +21,6 @@ use Rattle.prefixes.proofs.Sames.{same_route-true, same_route-refl, same_key-ref
 use Rattle.kernel_model.specs.Same.{same_request, Distinct}
 use Rattle.kernel_model.specs.State.{device_table}
 use Rattle.kernel_model.specs.Switch.{requests_of, LosesRoutes}
-use Rattle.kernel_model.specs.declared.request.Request.{Request}
 use Rattle.kernel_model.specs.declared.request.Request.TheVariants as req
 use Rattle.policy_state.specs.Good.{IsWellFormed, IsNetwork}
 use Rattle.policy_state.specs.Rows.{numbers_from}

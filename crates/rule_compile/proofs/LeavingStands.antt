@@ -1,5 +1,5 @@
 -- Routes that go before the rules: what the kernel stands for after them, and at the end.
-use Rattle.std.proofs.Common.{◌≡◌, ◌∙◌, ◌==◌, ℕ, Bool, true, false, not, cond, List, [], ◌∷◌, ◌++◌, map, filter, refl, sym, ap, subst, inl, inr}
+use Rattle.std.proofs.Common.{◌≡◌, ◌∙◌, ◌==◌, ℕ, not, List, [], ◌∷◌, ◌++◌, map, filter, refl, sym, ap, subst, inl, inr}
 use Rattle.std.specs.Prelude.{◌≢◌}
 use Rattle.std.proofs.lemmas.Bool.{cases_Bool, eqb-true}
 use Rattle.std.proofs.lemmas.List.{map-append}
@@ -15,8 +15,7 @@ use Rattle.kernel_model.specs.Segment.{done}
 use Rattle.kernel_model.specs.Stands.{Stands}
 use Rattle.kernel_model.specs.State.{KernelState, rules_of, routes_of, own_rule, cut_route, device_table}
 use Rattle.kernel_model.specs.Switch.{additions, deletions, requests_of, switched, LosesRoutes}
-use Rattle.kernel_model.specs.declared.request.Entry.{Entry}
-use Rattle.kernel_model.specs.declared.request.EntryKind.TheVariants.{Added, Deleted}
+use Rattle.kernel_model.specs.declared.request.EntryKind.TheVariants.{Deleted}
 use Rattle.kernel_model.specs.declared.request.Request.{Request}
 use Rattle.kernel_model.proofs.Replays.{replay_from-append}
 use Rattle.kernel_model.proofs.Standing.{done_stands, routes_left}

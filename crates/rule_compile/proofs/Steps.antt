@@ -12,10 +12,8 @@ use Rattle.networks.specs.declared.kind.Kind.{Kind}
 use Rattle.networks.specs.declared.kind.Kind.TheVariants as kind
 use Rattle.networks.specs.declared.network.Network.{Network}
 use Rattle.policy_state.specs.Good.{IsWellFormed}
-use Rattle.policy_state.specs.Rows.{items}
 use Rattle.policy_state.specs.Step.{refusal, reasons, because, has_too_many_rules, of_net, kind_with, is_in, is_pair, is_protectable, is_user, is_of_user, with_permission_of, with_net, with_link, with_route, with_ranges, without_route, without_net, without_interface, route_of, key_of, changed}
 use Rattle.policy_state.specs.View.{StateView, link_named}
-use Rattle.policy_state.specs.declared.tether.TetherPair.{TetherPair}
 use Rattle.policy_state.specs.declared.users.UserPermission.{UserPermission}
 use Rattle.policy_state.proofs.Accepted.{none_holds, first-parts}
 use Rattle.policy_state.proofs.GoodStates.{same-ids}

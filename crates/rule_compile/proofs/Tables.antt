@@ -1,5 +1,5 @@
 -- The tables of a state before and after a command are as the two-lists law asks.
-use Rattle.std.proofs.Common.{◌≡◌, ℕ, [], ◌∷◌, List, subst, sym}
+use Rattle.std.proofs.Common.{ℕ, [], ◌∷◌, List, subst, sym}
 use Rattle.prefixes.specs.declared.addr.Family.{Family}
 use Rattle.prefixes.specs.declared.route.Route.{Route}
 use Rattle.rule_law.specs.Rules as law

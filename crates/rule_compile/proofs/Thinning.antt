@@ -14,7 +14,7 @@ use Rattle.policy_state.specs.Step.{with_net, without_net, without_link, is_in, 
 use Rattle.policy_state.specs.View.{StateView}
 use Rattle.policy_state.specs.declared.row.NetworkSet.{NetworkSet}
 use Rattle.policy_state.specs.declared.row.NetworkSet.TheVariants.{OfLocal, OfPhysical, OfFree, OfDefault, OfVirtual, OfSecure, OfBypass}
-use Rattle.rule_compile.proofs.ChangeKinds.{Thins, mapped-same, default-mapped, no-default, left-whole, left-interfaces, default-stays, default-goes}
+use Rattle.rule_compile.proofs.ChangeKinds.{Thins, default-mapped, no-default, left-whole, left-interfaces, default-stays, default-goes}
 use Rattle.rule_compile.proofs.Shrinking.{IsLeft, IsLeftDefault, left-same, left-filter}
 
 pub all-stay : {A : Type 0} (xs : List A) → filter (λ (x : A). true) xs ≡ xs

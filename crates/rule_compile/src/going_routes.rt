@@ -1,5 +1,5 @@
-//! The routes that go with the interfaces that leave their network, as requests: the shortest prefix first, since by then no
-//! longer one may be looked up, and those of one length in the order of their addition.
+//! The routes that go with the interfaces that leave their network, as requests: the shortest prefix first, so that the best
+//! route of a packet goes after every other one of the interface, and those of one length in the order of their addition.
 ghost use Rattle.std.specs.Prelude.{◌≡◌, ◌++◌, [], IfOk, OnOk, map, flat_map};
 ghost use Rattle.commands.specs.declared.command.Command.TheVariants as command;
 ghost use Rattle.kernel_model.specs.Switch.{requests_of};
