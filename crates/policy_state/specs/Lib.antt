@@ -12,3 +12,4 @@ pub mod ChangedNet
 pub mod UserLists
 pub mod Users
 pub mod Room
+pub mod Routed

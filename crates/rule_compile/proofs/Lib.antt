@@ -28,3 +28,17 @@ mod Starting
 mod Levelled
 mod ByLength
 mod RoutesLeft
+mod Permissions
+mod Cutting
+mod SortedRules
+mod TouchedTables
+mod TouchedNetworks
+mod TouchedItems
+mod TouchedKinds
+mod TouchedUsers
+mod TouchedStates
+mod TouchedChanges
+mod TouchedApart
+mod TouchedPlans
+mod Unrouted
+mod TouchedRules

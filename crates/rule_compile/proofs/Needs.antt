@@ -25,6 +25,7 @@ use Rattle.policy_state.specs.declared.row.Selector.TheVariants.{Unstated, OfIte
 use Rattle.networks.specs.Kinds.{permission_of, ranges_of}
 use Rattle.policy_state.specs.Table.{rule_of, needed, marks_of, table_by_rows}
 use Rattle.policy_state.proofs.RowTests.{is_own}
+use Rattle.rule_compile.proofs.Permissions.{same_bits, mask-bits, own-needed}
 use Rattle.policy_state.proofs.Owners.{Has, Owners, OfMap, OfFlat, of_map, of_flat, of_rules}
 use Rattle.policy_state.proofs.RowItems.{part, map-flat}
 use Rattle.rule_compile.proofs.Comes.{touched-turn}
@@ -36,35 +37,6 @@ with_needs q i = record i { needs = q }
 -- every item asks for the permission
 abbrev pub Asks : Permission → List Item → Type 0
 Asks p items = (i : Item) → Has items i → i.needs ≡ p
-
-same_bits : (p q : Permission) → bits_of p ≡ bits_of q → p ≡ q
-same_bits needs.Nothing needs.Nothing e = refl
-same_bits needs.Nothing needs.Network e = absurd (omega (arith, e))
-same_bits needs.Nothing needs.System e = absurd (omega (arith, e))
-same_bits needs.Network needs.Nothing e = absurd (omega (arith, e))
-same_bits needs.Network needs.Network e = refl
-same_bits needs.Network needs.System e = absurd (omega (arith, e))
-same_bits needs.System needs.Nothing e = absurd (omega (arith, e))
-same_bits needs.System needs.Network e = absurd (omega (arith, e))
-same_bits needs.System needs.System e = refl
-
-net_mask-below : (n : Option ℕ) → net_mask n ≤ 0xffff
-net_mask-below None = omega arith
-net_mask-below (Some n) = omega arith
-
-flag_mask-below : (f : Option Bool) → flag_mask f ≤ 1
-flag_mask-below None = omega arith
-flag_mask-below (Some b) = omega arith
-
--- the permission is the highest field of the mask
-mask-bits : (m n : Selection) → mask_of m ≡ mask_of n → bits_of m.permission ≡ bits_of n.permission
-mask-bits m n e =
-    omega (arith, e, net_mask-below m.net, net_mask-below n.net, flag_mask-below m.explicit, flag_mask-below n.explicit, flag_mask-below m.guarded, flag_mask-below n.guarded)
-
-own-needed : (f : Selector Permission) (x : Permission) → is_own f ≡ true → needed f x ≡ x
-own-needed Unstated x h = absurd (false≢true h)
-own-needed OfItem x h = refl
-own-needed (OfRow value) x h = absurd (false≢true h)
 
 other-needed : (f : Selector Permission) (x y : Permission) → is_own f ≡ false → needed f x ≡ needed f y
 other-needed Unstated x y h = refl

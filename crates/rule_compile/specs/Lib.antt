@@ -1,2 +1,6 @@
 pub mod Middles
 pub mod Asked
+pub mod Touched
+pub mod Shapes
+pub mod PartOf
+pub mod Planned

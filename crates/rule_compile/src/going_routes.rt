@@ -71,7 +71,7 @@ fn push_all(requests: &mut Vec<Request>, table: u32, routes: &[Route]) -> Result
 }
 
 /// Appends what asks for the routes of a network's interface.
-fn push_leaving(
+pub(crate) fn push_leaving(
     alloc: Global,
     requests: &mut Vec<Request>,
     network: &StoredNetwork,
@@ -120,7 +120,10 @@ pub(crate) fn interface_leaves(
 }
 
 /// What asks for the routes of all of a network's interfaces, interface by interface.
-fn network_routes(alloc: Global, network: &StoredNetwork) -> Result<Vec<Request>, AllocError>
+pub(crate) fn network_routes(
+    alloc: Global,
+    network: &StoredNetwork,
+) -> Result<Vec<Request>, AllocError>
     ensures { IfOk result (λ requests. requests.items ≡ requests_of
         (flat_map (leaving_by (net_of network.now)) (net_of network.now).interfaces)) }
 {

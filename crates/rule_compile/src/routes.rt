@@ -42,7 +42,7 @@ pub(crate) fn route_that_comes(
 }
 
 /// What asks for the network's route that belongs to the link and has the key.
-fn requests_by(
+pub(crate) fn requests_by(
     alloc: Global,
     network: &StoredNetwork,
     link: u16,
