@@ -4,3 +4,4 @@ pub mod Policed
 pub mod Bounding
 pub mod Forming
 pub mod Once
+pub mod Bringing

@@ -1,5 +1,6 @@
 pub mod Limit
 pub mod View
+pub mod Brought
 pub mod Applied
 pub mod Started
 pub mod Causes

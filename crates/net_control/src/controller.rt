@@ -5,14 +5,15 @@ ghost use Rattle.kernel_model.specs.declared.request.Request.TheVariants as req;
 ghost use Rattle.prefixes.specs.declared.route.Route.{Route};
 ghost use Rattle.policy_state.specs.View.{start};
 
+use crate::bring::{Stopped, ask_all};
 use kernel_model::{Kernel, Plan, Request};
 use net_names::Code;
 use plan_exec::{Carried, carry};
 use policy_meaning::{
     barred_stays_in, more_networks_stay_in, own_rule_means_start, table_means_policy,
 };
-use policy_state::{Command, State, StepFault};
-use rule_compile::{plan, plan_ends, plan_law, requests_can_be_asked, start_law, start_plan};
+use policy_state::{Change, Command, State};
+use rule_compile::{plan_change, plan_ends, plan_law, requests_can_be_asked, start_law, start_plan};
 use std::alloc::{AllocError, Global};
 use std::marker::Model;
 use thiserror::Error;
@@ -99,6 +100,10 @@ impl Controller {
     ghost use Rattle.net_control.specs.Bounds.{KeepsLimit};
     ghost use Rattle.net_control.specs.Causes.{HasCause, HasStartCause};
     ghost use Rattle.net_control.specs.Moments.{GoesOnce, IsAsBefore, IsStartAsBefore, KeepsLockdown, KeepsPolicy, SendsByPolicy};
+    ghost use Rattle.net_control.specs.Brought.{IsBrought};
+    ghost use Rattle.plan_exec.specs.MayCarry.{MayCarry};
+    ghost use Rattle.policy_state.specs.Change.{Fits, turned};
+    ghost use Rattle.policy_state.specs.Good.{IsGood};
     ghost use Rattle.policy_state.specs.Step.{changed};
 
     // Asks for the rules of the first state.
@@ -173,6 +178,32 @@ impl Controller {
         self.halted
     }
 
+    // Carries the plan out, and makes the change of the state where nothing came in the way.
+    fn bring<K: Kernel>(
+        &mut self,
+        kernel: &mut K,
+        change: &Change,
+        plan: &Plan,
+    ) -> Result<Answer, AllocError>
+        requires fits { Fits change.now self.old.state }
+        requires good_after { IsGood (turned change.now self.old.state) }
+        requires may { MayCarry plan.now (K.seen kernel.old) (K.room kernel.old) }
+        ensures { IsBrought result plan.now (turned change.now self.old.state) self.old self.new
+            (K.seen kernel.old) (K.seen kernel.new) }
+    {
+        let asked = self
+            .state
+            .turn_if(change, kernel, |kernel| ask_all(plan, kernel))?;
+        match asked {
+            Ok(()) => Ok(Answer::Done),
+            Err(Stopped::Undone { request }) => Ok(Answer::KernelRefused { request }),
+            Err(Stopped::Halted { request }) => {
+                self.halted = Some(request);
+                Ok(Answer::Halted { request })
+            }
+        }
+    }
+
     // Takes a command with a controller that has not halted.
     fn take<K: Kernel>(&mut self, kernel: &mut K, command: &Command) -> Result<Answer, AllocError>
         requires kept { IsKept self.old (K.seen kernel.old) }
@@ -181,12 +212,11 @@ impl Controller {
             (K.seen kernel.new) }
         ensures kept { IsKept self.new (K.seen kernel.new) }
     {
-        let new = match self.state.step(command) {
-            Ok(new) => new,
-            Err(StepFault::Refused { code }) => return Ok(Answer::Refused { code }),
-            Err(StepFault::Memory(fault)) => return Err(fault),
+        let change = match self.state.accept(command) {
+            Ok(change) => change,
+            Err(code) => return Ok(Answer::Refused { code }),
         };
-        let plan = plan(self.alloc, &self.state, &new, command)?;
+        let plan = plan_change(self.alloc, &self.state, &change)?;
         let Some(most) = room_for(kernel, &plan) else {
             return Ok(Answer::Refused {
                 code: Code::NoSpace,
@@ -196,17 +226,7 @@ impl Controller {
         command.fits_types();
         requests_can_be_asked();
         plan_ends();
-        match carry(&plan, kernel) {
-            Carried::Done => {
-                self.state = new;
-                Ok(Answer::Done)
-            }
-            Carried::Undone { request } => Ok(Answer::KernelRefused { request }),
-            Carried::Halted { request } => {
-                self.halted = Some(request);
-                Ok(Answer::Halted { request })
-            }
-        }
+        self.bring(kernel, &change, &plan)
     }
 
     // Answers a command, asking nothing where the controller has halted.
@@ -222,8 +242,9 @@ impl Controller {
         }
     }
 
-    /// Brings the kernel to the state that the command gives. The new state, the plan and the kernel's room are made
-    /// first, so that nothing can run out of memory from the first request on. A controller that has halted asks nothing.
+    /// Brings the kernel and the state to what the command gives, at the cost of what the command changes. The plan, the
+    /// kernel's room and the state's are made first, so that nothing can run out of memory from the first request on. A
+    /// controller that has halted asks nothing.
     pub fn apply<K: Kernel>(
         &mut self,
         kernel: &mut K,

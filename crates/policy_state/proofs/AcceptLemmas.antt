@@ -1,5 +1,5 @@
 -- What the looks at networks find.
-use Rattle.std.proofs.Common.{◌≡◌, ◌∙◌, ◌+◌, ◌==◌, ℕ, suc, true, List, [], ◌∷◌, ◌++◌, Some, None, length, map, refl, sym, ap, ap₂, subst, inl, inr, arith}
+use Rattle.std.proofs.Common.{◌≡◌, ◌∙◌, ◌+◌, ◌==◌, ℕ, suc, Bool, true, false, List, Option, [], ◌∷◌, ◌++◌, Some, None, length, map, refl, sym, ap, ap₂, subst, inl, inr, arith}
 use Rattle.std.specs.Prelude.{sum_by, if◌then◌else◌}
 use Rattle.std.specs.List.{list_any, list_all, AllByRecursion}
 use Rattle.std.specs.Option.{option_map}
@@ -12,8 +12,12 @@ use Rattle.networks.specs.Lists.{find_id, find_link}
 use Rattle.networks.specs.Network.{has_link, routes_by}
 use Rattle.networks.specs.declared.network.LinkRoute.{LinkRoute}
 use Rattle.policy_state.specs.Good.{IsNetwork, IsWellFormed, LeadsOut, differ}
-use Rattle.policy_state.specs.Step.{Reason, first_that_holds, with_net, with_link}
-use Rattle.policy_state.specs.View.{Network, StateView}
+use Rattle.policy_state.specs.Step.{Reason, first_that_holds, is_in, with_net, with_link}
+use Rattle.policy_state.specs.Routed.{NamesRoutes, is_routed}
+use Rattle.policy_state.specs.View.{Network, StateView, link_named}
+use Rattle.policy_state.specs.declared.change.Change.{Change}
+use Rattle.policy_state.specs.declared.change.Change.TheVariants as change
+use Rattle.commands.specs.declared.command.Command.TheVariants as command
 use Rattle.policy_state.proofs.GoodStates.{same-ids}
 use Rattle.policy_state.proofs.GoodFacts.{found-by_link}
 use Rattle.policy_state.proofs.NetworkParts.{id-found}
@@ -118,3 +122,18 @@ routes-in_all n good = by n.routes good.routes_belong
           once-one r.link n.interfaces good.interfaces_differ all.0.0,
           by rs all.1,
         )
+
+inside-at : (s : StateView) (net : ℕ) (n : Network) → find_id net s.networks ≡ Some n → (link : ℕ) → is_in s net link ≡ has_link n link
+inside-at s net n found link = ap (λ (o : Option Network). elim o as (λ _. Bool) [ Some m ↦ has_link m link | None ↦ false ]) found
+
+-- an interface that goes is the one that the command names
+pub names-interface : (s : StateView) (net : ℕ) (name : List ℕ) (n : Network) (link : ℕ) → link_named s name ≡ Some link → find_id net s.networks ≡ Some n → has_link n link ≡ true
+    → NamesRoutes (change.InterfaceGoes net link) s (command.InterfaceRemove net name)
+names-interface s net name n link named found has =
+    let gone : Change = change.InterfaceGoes net link in
+    subst (λ (o : Option ℕ). elim o as (λ _. Type 0) [
+      | Some i ↦ elim (is_in s net i) as (λ _. Type 0) [ true ↦ gone ≡ change.InterfaceGoes net i | false ↦ is_routed gone ≡ false ]
+      | None ↦ is_routed gone ≡ false
+    ]) (sym named)
+    (subst (λ (b : Bool). elim b as (λ _. Type 0) [ true ↦ gone ≡ change.InterfaceGoes net link | false ↦ is_routed gone ≡ false ])
+    (sym (inside-at s net n found link ∙ has)) refl)

@@ -1,5 +1,5 @@
 -- What a state is after a change, with what the command names resolved: a link by its index, a way by its route.
-use Rattle.std.specs.Prelude.{◌≡◌, ℕ, ◌≤◌, ◌<◌, ◌∷◌, [], ◌++◌, Bool, false, List, Some, None, not, filter, length, if◌then◌else◌}
+use Rattle.std.specs.Prelude.{◌≡◌, ℕ, ◌≤◌, ◌<◌, ◌∷◌, [], ◌++◌, Bool, false, List, Some, None, not, filter, length, if◌then◌else◌, Result, Ok, Err}
 use Rattle.std.specs.List.{list_any}
 use Rattle.std.specs.Option.{option_map, IfSome}
 use Rattle.std.specs.Str.{bytes_eq}
@@ -42,6 +42,12 @@ turned (change.LockdownComes range) s = record s { lockdown = s.lockdown ++ rang
 turned (change.LockdownGoes range) s = record s { lockdown = without s.lockdown (range ∷ []) }
 turned (change.PairComes pair) s = record s { pairs = s.pairs ++ pair ∷ [] }
 turned (change.PairGoes pair) s = record s { pairs = filter (λ p. not (is_pair pair p)) s.pairs }
+
+-- the state after a change for which another was asked: as it was, unless the answer is that it may be made
+abbrev pub turned_if : {R E : Type 0} → Result (Result (Unit {0}) R) E → Change → StateView → StateView
+turned_if (Ok (Ok u)) change s = turned change s
+turned_if (Ok (Err reason)) change s = s
+turned_if (Err fault) change s = s
 
 -- the link is an interface of the network of this id
 abbrev pub has_link_at : ℕ → List Network → ℕ → Bool

@@ -2,6 +2,7 @@
 ghost use Rattle.std.specs.Prelude.{◌≡◌, IfOk};
 ghost use Rattle.std.specs.Result.{result_err};
 ghost use Rattle.policy_state.specs.Accept.{Makes};
+ghost use Rattle.policy_state.specs.Change.{turned};
 ghost use Rattle.policy_state.specs.Good.{IsGood};
 ghost use Rattle.policy_state.specs.Parts.{view_of, IsTallied};
 ghost use Rattle.policy_state.specs.Step as step;
@@ -90,14 +91,13 @@ impl Parts {
 }
 
 impl State {
-    /// Why the command is refused, or none where it is accepted.
-    pub fn refusal_of(&self, command: &Command) -> Option<Code>
-        ensures { result ≡ step.refusal self.now command.now }
+    /// What the command changes, or the code of the first reason against it.
+    pub fn accept<'a>(&self, command: &'a Command) -> Result<Change<'a>, Code>
+        ensures code { result_err result ≡ step.refusal self.now command.now }
+        ensures makes { IfOk result (Makes self.now command.now) }
+        ensures good { IfOk result (λ change. IsGood (turned change self.now)) }
     {
-        let parts = &self.parts;
-        match parts.accept(command) {
-            Ok(_) => None,
-            Err(code) => Some(code),
-        }
+        command.fits_types();
+        self.parts.accept(command)
     }
 }

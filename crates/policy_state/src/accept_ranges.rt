@@ -1,5 +1,5 @@
 // Whether ranges of UIDs may come to a network or to lockdown, or go.
-ghost use Rattle.std.specs.Prelude.{◌≡◌, ◌∷◌, [], IfOk};
+ghost use Rattle.std.specs.Prelude.{◌≡◌, ◌∷◌, [], false, IfOk};
 ghost use Rattle.std.specs.List.{list_all};
 ghost use Rattle.std.specs.Result.{result_err};
 ghost use Rattle.network_store.specs.Stored.{kind_of};
@@ -9,6 +9,7 @@ ghost use Rattle.policy_state.specs.Accept.{Makes, takes};
 ghost use Rattle.policy_state.specs.Change.{Fits, turned};
 ghost use Rattle.policy_state.specs.Good.{IsGood};
 ghost use Rattle.policy_state.specs.Parts.{view_of};
+ghost use Rattle.policy_state.specs.Routed.{is_routed};
 ghost use Rattle.policy_state.specs.Step as step;
 ghost use Rattle.uid_ranges.specs.Ranks.{has_users};
 ghost use Rattle.uid_ranges.specs.Ranges.{has, lists_meet};
@@ -63,6 +64,7 @@ impl Parts {
         ensures turned { IfOk result (λ change. turned change (view_of self.now) ≡
             step.with_net net (step.with_ranges rank ranges.now) (view_of self.now)) }
         ensures fits { IfOk result (λ change. Fits change (view_of self.now)) }
+        ensures routes { IfOk result (λ change. is_routed change ≡ false) }
     {
         let Some(network) = self.networks.get(net) else {
             return Err(Code::NoNetwork);
@@ -90,6 +92,7 @@ impl Parts {
         ensures turned { IfOk result (λ change. turned change (view_of self.now) ≡
             step.with_net net (step.without_ranges ranges.now) (view_of self.now)) }
         ensures fits { IfOk result (λ change. Fits change (view_of self.now)) }
+        ensures routes { IfOk result (λ change. is_routed change ≡ false) }
     {
         let Some(network) = self.networks.get(net) else {
             return Err(Code::NoNetwork);

@@ -1,6 +1,7 @@
 // A state's way to the next one.
-ghost use Rattle.std.specs.Prelude.{◌≡◌, ◌↔◌, None, Some, Err, IfOk, OnOk};
-ghost use Rattle.policy_state.specs.Change.{Fits, turned};
+ghost use Rattle.std.specs.Prelude.{◌≡◌, ◌↔◌, None, Some, Err, IfOk, OnOk, OnErr};
+ghost use Rattle.std.specs.Fn.{FnOnceReturnsAtMut, FnOnceTakesAtMut};
+ghost use Rattle.policy_state.specs.Change.{Fits, turned, turned_if};
 ghost use Rattle.policy_state.specs.Good.{IsGood};
 ghost use Rattle.policy_state.specs.Parts.{view_of, IsTallied};
 ghost use Rattle.policy_state.specs.Step.{refusal, changed};
@@ -50,6 +51,32 @@ impl State {
         match parts.turned_by(&change) {
             Ok(parts) => Ok(State { parts }),
             Err(fault) => Err(StepFault::Memory(fault)),
+        }
+    }
+
+    /// Makes the change where `ask` says that it may be made. The room for it is taken first, so that from there on nothing
+    /// runs out of memory; where there is none, nothing is asked.
+    pub fn turn_if<C, R, F: FnOnce(&mut C) -> Result<(), R>>(
+        &mut self,
+        change: &Change,
+        context: &mut C,
+        ask: F,
+    ) -> Result<Result<(), R>, AllocError>
+        requires callable { FnOnceTakesAtMut F.FnOnce ask context.old }
+        requires fits { Fits change.now self.old }
+        requires good_after { IsGood (turned change.now self.old) }
+        ensures asked { IfOk result
+            (λ said. FnOnceReturnsAtMut F.FnOnce ask context.old said context.new) }
+        ensures not_asked { OnErr result (context.new ≡ context.old) }
+        ensures state { self.new ≡ turned_if result change.now self.old }
+    {
+        self.parts.make_room(change)?;
+        match ask(context) {
+            Ok(()) => {
+                self.parts.turn(change);
+                Ok(Ok(()))
+            }
+            Err(reason) => Ok(Err(reason)),
         }
     }
 }

@@ -49,7 +49,7 @@ use Rattle.rule_compile.specs.Touched.{Part, no_part, part_items, part_rules, sp
 use Rattle.rule_compile.proofs.Permissions.{mask-bits, own-needed}
 
 -- a rule of a part, with its row and its item
-record OfPart (p : Part) (x : Rule) : Type 0 where
+pub record OfPart (p : Part) (x : Rule) : Type 0 where
   row : Row
   there : Has rows row
   item : Item
@@ -120,7 +120,7 @@ module _ (n : Network) (physical : is_physical n.kind ≡ true) (asked : Permiss
 
   -- where the row has rules for the network, a rule shows the permission that is asked
   shown-by : (pick : NetworkSet) (d : Option ℕ) (row : Row) → picks pick d (with_permission asked n) ≡ true → asks_own pick row ≡ true → needed row.needs asked ≡ asked
-    shown-by OfLocal d row picked fit = absurd (by n.kind physical picked)
+  shown-by OfLocal d row picked fit = absurd (by n.kind physical picked)
     where
       by : (k : Kind) → is_physical k ≡ true → (class_of (asking_for asked k) == 0) ≡ true → ⊥
       by kind.Local h e = false≢true h

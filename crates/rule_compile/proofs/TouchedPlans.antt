@@ -79,16 +79,17 @@ no-routes n link lacks (r ∷ routes) belong =
 
 module _ (s : StateView) (formed : IsWellFormed s) where
   none-leave : (n : Network) (link : ℕ) → Has s.networks n → has_link n link ≡ false → leaving_by n link ≡ []
+  unfolding shortest_first
   none-leave n link there lacks =
       ap (λ (routes : List Route). map (λ (r : Route). (table_of n.kind link, r)) (shortest_first routes))
       (no-routes n link lacks n.routes (λ r h. (is-whole s formed).routes n r there h))
 
   -- an interface that isn't there leaves nothing
   not-in : (net link : ℕ) (routes : Network → ℕ → List (ℕ × Route)) → ((n : Network) → Has s.networks n → has_link n link ≡ false → routes n link ≡ []) → is_in s net link ≡ false
-      → (elim (find_id net s.networks) [ Some n ↦ routes n link | None ↦ [] ]) ≡ []
+      → (elim (find_id net s.networks) as (λ _. List (ℕ × Route)) [ Some n ↦ routes n link | None ↦ [] ]) ≡ []
   not-in net link routes none lacks = by (find_id net s.networks) refl lacks
     where
-      by : (o : Option Network) → find_id net s.networks ≡ o → (elim o [ Some n ↦ has_link n link | None ↦ false ]) ≡ false → (elim o [ Some n ↦ routes n link | None ↦ [] ]) ≡ []
+      by : (o : Option Network) → find_id net s.networks ≡ o → (elim o as (λ _. Bool) [ Some n ↦ has_link n link | None ↦ false ]) ≡ false → (elim o as (λ _. List (ℕ × Route)) [ Some n ↦ routes n link | None ↦ [] ]) ≡ []
       by None is lacks = refl
       by (Some n) is lacks = none n (find-has (λ (m : Network). net == m.id) s.networks n is) lacks
 
@@ -100,11 +101,11 @@ module _ (s : StateView) (formed : IsWellFormed s) where
   route-added : (c : Change) (net : ℕ) (name : List ℕ) (prefix : Prefix) (w : Way) → NamesRoutes c s (command.RouteAdd net name prefix w) → SameRoutes s c (command.RouteAdd net name prefix w)
   route-added c net name prefix w names = by (link_named s name) refl names
     where
-      by : (o : Option ℕ) → link_named s name ≡ o → (elim o [ Some link ↦ c ≡ change.RouteComes net link (route_of link prefix w) | None ↦ is_routed c ≡ false ]) → SameRoutes s c (command.RouteAdd net name prefix w)
+      by : (o : Option ℕ) → link_named s name ≡ o → (elim o as (λ _. Type 0) [ Some link ↦ c ≡ change.RouteComes net link (route_of link prefix w) | None ↦ is_routed c ≡ false ]) → SameRoutes s c (command.RouteAdd net name prefix w)
       by None is plain = plain-routes c (command.RouteAdd net name prefix w) plain
-          (ap (λ (o : Option ℕ). elim o [ Some link ↦ elim (find_id net s.networks) [ Some n ↦ (table_of n.kind link, route_of link prefix w) ∷ [] | None ↦ [] ] | None ↦ [] ]) is) refl refl
+          (ap (λ (o : Option ℕ). elim o as (λ _. List (ℕ × Route)) [ Some link ↦ elim (find_id net s.networks) as (λ _. List (ℕ × Route)) [ Some n ↦ (table_of n.kind link, route_of link prefix w) ∷ [] | None ↦ [] ] | None ↦ [] ]) is) refl refl
       by (Some link) is same = subst (λ (d : Change). SameRoutes s d (command.RouteAdd net name prefix w)) (sym same) (record {
-        come = ap (λ (o : Option ℕ). elim o [ Some link ↦ elim (find_id net s.networks) [ Some n ↦ (table_of n.kind link, route_of link prefix w) ∷ [] | None ↦ [] ] | None ↦ [] ]) is;
+        come = ap (λ (o : Option ℕ). elim o as (λ _. List (ℕ × Route)) [ Some link ↦ elim (find_id net s.networks) as (λ _. List (ℕ × Route)) [ Some n ↦ (table_of n.kind link, route_of link prefix w) ∷ [] | None ↦ [] ] | None ↦ [] ]) is;
         gone = refl;
         first = refl;
       })
@@ -112,12 +113,12 @@ module _ (s : StateView) (formed : IsWellFormed s) where
   route-removed : (c : Change) (net : ℕ) (name : List ℕ) (prefix : Prefix) (special : Bool) → NamesRoutes c s (command.RouteRemove net name prefix special) → SameRoutes s c (command.RouteRemove net name prefix special)
   route-removed c net name prefix special names = by (link_named s name) refl names
     where
-      by : (o : Option ℕ) → link_named s name ≡ o → (elim o [ Some link ↦ c ≡ change.RouteGoes net link (key_of link prefix special) | None ↦ is_routed c ≡ false ]) → SameRoutes s c (command.RouteRemove net name prefix special)
+      by : (o : Option ℕ) → link_named s name ≡ o → (elim o as (λ _. Type 0) [ Some link ↦ c ≡ change.RouteGoes net link (key_of link prefix special) | None ↦ is_routed c ≡ false ]) → SameRoutes s c (command.RouteRemove net name prefix special)
       by None is plain = plain-routes c (command.RouteRemove net name prefix special) plain refl
-          (ap (λ (o : Option ℕ). elim o [ Some link ↦ elim (find_id net s.networks) [ Some n ↦ keyed_in n link (key_of link prefix special) | None ↦ [] ] | None ↦ [] ]) is) refl
+          (ap (λ (o : Option ℕ). elim o as (λ _. List (ℕ × Route)) [ Some link ↦ elim (find_id net s.networks) as (λ _. List (ℕ × Route)) [ Some n ↦ keyed_in n link (key_of link prefix special) | None ↦ [] ] | None ↦ [] ]) is) refl
       by (Some link) is same = subst (λ (d : Change). SameRoutes s d (command.RouteRemove net name prefix special)) (sym same) (record {
         come = refl;
-        gone = ap (λ (o : Option ℕ). elim o [ Some link ↦ elim (find_id net s.networks) [ Some n ↦ keyed_in n link (key_of link prefix special) | None ↦ [] ] | None ↦ [] ]) is;
+        gone = ap (λ (o : Option ℕ). elim o as (λ _. List (ℕ × Route)) [ Some link ↦ elim (find_id net s.networks) as (λ _. List (ℕ × Route)) [ Some n ↦ keyed_in n link (key_of link prefix special) | None ↦ [] ] | None ↦ [] ]) is;
         first = refl;
       })
 
@@ -125,8 +126,8 @@ module _ (s : StateView) (formed : IsWellFormed s) where
   interface-removed c net name names = by (link_named s name) refl names
     where
       of-link : (routes : Network → ℕ → List (ℕ × Route)) (o : Option ℕ) → link_named s name ≡ o
-          → of_interface s net name routes ≡ (elim o [ Some link ↦ elim (find_id net s.networks) [ Some n ↦ routes n link | None ↦ [] ] | None ↦ [] ])
-      of-link routes o is = ap (λ (o : Option ℕ). elim o [ Some link ↦ elim (find_id net s.networks) [ Some n ↦ routes n link | None ↦ [] ] | None ↦ [] ]) is
+          → of_interface s net name routes ≡ (elim o as (λ _. List (ℕ × Route)) [ Some link ↦ elim (find_id net s.networks) as (λ _. List (ℕ × Route)) [ Some n ↦ routes n link | None ↦ [] ] | None ↦ [] ])
+      of-link routes o is = ap (λ (o : Option ℕ). elim o as (λ _. List (ℕ × Route)) [ Some link ↦ elim (find_id net s.networks) as (λ _. List (ℕ × Route)) [ Some n ↦ routes n link | None ↦ [] ] | None ↦ [] ]) is
 
       last : Network → ℕ → List (ℕ × Route)
       last n link = if is_local n.kind then [] else leaving_by n link
@@ -140,12 +141,12 @@ module _ (s : StateView) (formed : IsWellFormed s) where
       no-first : (n : Network) (link : ℕ) → leaving_by n link ≡ [] → first n link ≡ []
       no-first n link none = elim (is_local n.kind) as (λ b. (if b then leaving_by n link else []) ≡ []) [ true ↦ none | false ↦ refl ]
 
-      by : (o : Option ℕ) → link_named s name ≡ o → (elim o [ Some link ↦ elim (is_in s net link) [ true ↦ c ≡ change.InterfaceGoes net link | false ↦ is_routed c ≡ false ] | None ↦ is_routed c ≡ false ])
+      by : (o : Option ℕ) → link_named s name ≡ o → (elim o as (λ _. Type 0) [ Some link ↦ elim (is_in s net link) as (λ _. Type 0) [ true ↦ c ≡ change.InterfaceGoes net link | false ↦ is_routed c ≡ false ] | None ↦ is_routed c ≡ false ])
           → SameRoutes s c (command.InterfaceRemove net name)
       by None is plain = plain-routes c (command.InterfaceRemove net name) plain refl (of-link last None is) (of-link first None is)
       by (Some link) is names = within (is_in s net link) refl names
         where
-          within : (b : Bool) → is_in s net link ≡ b → (elim b [ true ↦ c ≡ change.InterfaceGoes net link | false ↦ is_routed c ≡ false ]) → SameRoutes s c (command.InterfaceRemove net name)
+          within : (b : Bool) → is_in s net link ≡ b → (elim b as (λ _. Type 0) [ true ↦ c ≡ change.InterfaceGoes net link | false ↦ is_routed c ≡ false ]) → SameRoutes s c (command.InterfaceRemove net name)
           within true there same = subst (λ (d : Change). SameRoutes s d (command.InterfaceRemove net name)) (sym same) (record {
             come = refl;
             gone = of-link last (Some link) is;

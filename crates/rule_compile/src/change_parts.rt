@@ -2,7 +2,8 @@
 ghost use Rattle.std.specs.Prelude.{◌≡◌, ◌==◌, ◌∷◌, [], ℕ, filter, if◌then◌else◌, Some, None, IfOk};
 ghost use Rattle.std.specs.Option.{option_map};
 ghost use Rattle.network_store.specs.Store.{nets_of};
-ghost use Rattle.network_store.specs.Stored.{net_of};
+ghost use Rattle.network_store.specs.Stored.{kind_of, net_of};
+ghost use Rattle.networks.specs.Kinds.{ranges_of};
 ghost use Rattle.networks.specs.Network.{has_link};
 ghost use Rattle.networks.specs.declared.network.Network.{Network};
 ghost use Rattle.policy_state.specs.Rows.{default_of, default_among};
@@ -17,7 +18,7 @@ use crate::part::Extent;
 use crate::shape::Shape;
 use crate::touched::{Touched, untouched};
 use fwmark::Permission;
-use network_store::{StoredNetwork, StoredNetworks};
+use network_store::{StoredKind, StoredNetwork, StoredNetworks};
 use policy_state::{NetworkSet, State, TetherPair, default_network, picks};
 use std::alloc::{AllocError, Global};
 use uid_ranges::{Ranked, UidRange};
@@ -258,15 +259,16 @@ fn is_among(users: UidRange, list: &[UidRange]) -> bool
     list.iter().any(|other| users.is_same(other))
 }
 
-/// Those of the ranges that are among these.
+/// Those of a network's ranges that are among these.
 pub(crate) fn ranges_among(
     alloc: Global,
-    ranges: &[Ranked],
+    kind: &StoredKind,
     list: &[UidRange],
 ) -> Result<Vec<Ranked>, AllocError>
-    ensures { IfOk result (λ among. among.items ≡ filter (λ r. has list.now r.users) ranges.now) }
+    ensures { IfOk result (λ among. among.items ≡
+        filter (λ r. has list.now r.users) (ranges_of (kind_of kind.now))) }
 {
-    ranges
+    kind.ranges()
         .iter()
         .copied()
         .filter(|range| is_among(range.users, list))

@@ -132,7 +132,7 @@ fn ranges_go(
     let Some(network) = state.networks().get(net) else {
         return Ok(Vec::new(alloc));
     };
-    let gone = ranges_among(alloc, network.kind.ranges(), ranges)?;
+    let gone = ranges_among(alloc, &network.kind, ranges)?;
     touched_rules(alloc, &ranges_part(state, network, &gone))
 }
 

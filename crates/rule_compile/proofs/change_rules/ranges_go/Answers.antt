@@ -14,4 +14,4 @@ pub returns-in_default : goal.returns-in_default
 returns-in_default c = c.new.ensures.items ∙ unknown-rules c.args.state.now c.args.net (λ n. parts.ranges_part c.args.state.now n (filter (λ r. has c.args.ranges.now r.users) (ranges_of n.kind))) (nets_of c.networks.result.now) c.networks.ensures.value (sym c.get.ensures ∙ ap (option_map (λ n. net_of n.now)) c.in_default.is)
 
 pub returns : goal.returns
-returns c = IfOk-weaker c.touched_rules.result _ _ (λ rules is. is ∙ found-rules c.args.state.now c.args.net (λ n. parts.ranges_part c.args.state.now n (filter (λ r. has c.args.ranges.now r.users) (ranges_of n.kind))) (nets_of c.networks.result.now) (net_of c.in-Some.network.now) c.networks.ensures.value (sym c.get.ensures ∙ ap (option_map (λ n. net_of n.now)) c.in-Some.is) _ (c.ranges_part.ensures ∙ ap (λ rs. unrouted_part (parts.ranges_part c.args.state.now (net_of c.in-Some.network.now) rs)) (c.deref.ensures.value ∙ (c.in_ok-gone.ensures ∙ ap (filter (λ r. has c.args.ranges.now r.users)) c.ranges.ensures)))) c.touched_rules.ensures
+returns c = IfOk-weaker c.touched_rules.result _ _ (λ rules is. is ∙ found-rules c.args.state.now c.args.net (λ n. parts.ranges_part c.args.state.now n (filter (λ r. has c.args.ranges.now r.users) (ranges_of n.kind))) (nets_of c.networks.result.now) (net_of c.in-Some.network.now) c.networks.ensures.value (sym c.get.ensures ∙ ap (option_map (λ n. net_of n.now)) c.in-Some.is) _ (c.ranges_part.ensures ∙ ap (λ rs. unrouted_part (parts.ranges_part c.args.state.now (net_of c.in-Some.network.now) rs)) (c.deref.ensures.value ∙ c.in_ok-gone.ensures))) c.touched_rules.ensures

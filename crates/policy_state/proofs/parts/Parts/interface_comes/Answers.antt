@@ -1,4 +1,4 @@
-use Rattle.std.proofs.Common.{◌≡◌, ◌∙◌, true, Some, sym, rules}
+use Rattle.std.proofs.Common.{◌≡◌, ◌∙◌, true, Some, refl, sym, rules}
 use Rattle.network_store.specs.Stored.{net_of}
 use Rattle.networks.specs.Lists.{find_id}
 use Rattle.networks.specs.Network.{has_link}
@@ -19,4 +19,5 @@ returns-then-has_link-clause-makes c =
     record {
       turned = sym (changed_by_link-at s c.args.name.now (λ i. with_net c.args.net (with_link i)) link named ∙ link-there s c.requires.formed c.args.net (net_of c.in-Some.network.now) link found has);
       fits = tt;
+      routes = refl;
     }

@@ -6,7 +6,7 @@ use Rattle.policy_state.specs.Parts.{view_of}
 use Rattle.policy_state.specs.Step.{without_interface}
 use Rattle.policy_state.specs.View.{StateView, link_named}
 use Rattle.policy_state.proofs.Accepted.{changed_by_link-at}
-use Rattle.policy_state.proofs.AcceptLemmas.{owner-at}
+use Rattle.policy_state.proofs.AcceptLemmas.{names-interface, owner-at}
 use Rattle.policy_state.proofs.parts.Parts.interface_goes.Goals as goal
 
 pub returns-clause-makes : goal.returns-clause-makes
@@ -19,4 +19,5 @@ returns-clause-makes c =
     record {
       turned = sym (changed_by_link-at s c.args.name.now (λ i. without_interface c.args.net i) link named);
       fits = owner-at s c.requires.formed c.args.net (net_of c.in-Some.network.now) link found has;
+      routes = names-interface s c.args.net c.args.name.now (net_of c.in-Some.network.now) link named found has;
     }
