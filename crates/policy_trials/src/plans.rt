@@ -4,17 +4,19 @@ use kernel_model::{Plan, Request};
 use net_names::Name;
 use policy_state::{Command, State, StepFault};
 use prefixes::Family;
-use rule_compile::plan;
+use rule_compile::plan_change;
 use std::alloc::Global;
 use std::process::Abort;
 use std::test::Fail;
 
 // What the command asks of a kernel that stands for the state.
-fn asked(alloc: Global, old: &State, command: &Command) -> Result<Plan, StepFault> {
-    let new = old.step(command)?;
-    match plan(alloc, old, &new, command) {
-        Ok(plan) => Ok(plan),
-        Err(fault) => Err(StepFault::Memory(fault)),
+fn asked(alloc: Global, state: &State, command: &Command) -> Result<Plan, StepFault> {
+    match state.accept(command) {
+        Ok(change) => match plan_change(alloc, state, &change) {
+            Ok(plan) => Ok(plan),
+            Err(fault) => Err(StepFault::Memory(fault)),
+        },
+        Err(code) => Err(StepFault::Refused { code }),
     }
 }
 

@@ -10,7 +10,8 @@ fn answers_without_a_step(rt: HostRuntime) -> Result<(), Fail> {
     assert_eq!(rt; state.links().len(), 1);
 
     let name = state.name_of(1).ok_or("lo has a name")?;
-    let refusal = state.refusal_of(&Command::LinkRemove { name });
-    assert_eq!(rt; refusal, Some(Code::Invalid));
+    let command = Command::LinkRemove { name };
+    let accepted = state.accept(&command);
+    assert!(rt; matches!(accepted, Err(Code::Invalid)));
     Ok(())
 }

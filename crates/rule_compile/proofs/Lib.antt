@@ -1,5 +1,4 @@
 mod RuleLists
-mod Middles
 mod Changes
 mod Turning
 mod Growing

@@ -1,4 +1,3 @@
-pub mod Middles
 pub mod Asked
 pub mod Touched
 pub mod Shapes

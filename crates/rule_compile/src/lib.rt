@@ -6,7 +6,6 @@ mod change_parts;
 mod change_plan;
 mod change_routes;
 mod change_rules;
-mod difference;
 mod going_routes;
 mod laws;
 mod part;
@@ -22,6 +21,5 @@ mod touched;
 
 pub use change_plan::plan_change;
 pub use laws::{plan_ends, plan_law, requests_can_be_asked, start_law, tables_are_lawful};
-pub use requests::plan;
 pub use start::start_plan;
 pub use table::rules;
