@@ -21,7 +21,9 @@ use packet_trace::{Trail, follow};
 use policy_meaning::table_means_policy;
 use policy_state::State;
 use prefixes::Family;
-use report_text::{write_networks, write_rules, write_sockets, write_table, write_trail, write_verdict};
+use report_text::{
+    write_networks, write_rules, write_sockets, write_table, write_trail, write_verdict,
+};
 use rule_match::{Packet, Verdict};
 use std::alloc::{AllocError, Global};
 use turn_text::write_line_number;

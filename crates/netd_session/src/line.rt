@@ -88,12 +88,7 @@ impl Talk {
     {
         let watch = self.watch?;
         let socket = self.sockets.get(&watch.socket)?;
-        Some(Packet::made(
-            socket.uid,
-            socket.mark,
-            watch.dest,
-            socket.bound,
-        ))
+        Some(Packet::made(socket.uid, socket.mark, watch.dest, socket.bound))
     }
 
     // The room is taken first: once the kernel was asked, nothing may fail.

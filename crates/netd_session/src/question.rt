@@ -23,7 +23,12 @@ use turn_text::{Answer, put_answer};
 // Questions change nothing: each has one turn and one text.
 impl Talk {
     // Puts a turn last after which nothing has changed.
-    pub(crate) fn note<K: Kernel>(&mut self, number: u32, said: Said, kernel: &K) -> Result<(), AllocError>
+    pub(crate) fn note<K: Kernel>(
+        &mut self,
+        number: u32,
+        said: Said,
+        kernel: &K,
+    ) -> Result<(), AllocError>
         ensures ok { OnOk result
             (self.new.turns.items ≡ self.old.turns.items
             ++ turn_of number said (stands self.old (K.seen kernel.now)) ∷ []) }

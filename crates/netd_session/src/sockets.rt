@@ -150,7 +150,10 @@ impl Talk {
             self.new.turns.items self.new.answer.items }
         ensures controller { self.new.controller ≡ self.old.controller }
     {
-        match self.sockets.accept(self.controller.state(), name, uid, link) {
+        match self
+            .sockets
+            .accept(self.controller.state(), name, uid, link)
+        {
             Ok(mark) => {
                 self.put_made(number, Ok(mark), kernel);
                 Ok(())

@@ -31,9 +31,15 @@ module _ (words : List (List ℕ)) (old new : World) (s : Status) (one : OneForm
   of_soak seed count form (inl (run r b, is, does)) = absurd (let same : run r b ≡ soak seed count = one words (run r b) (soak seed count) is form in cc)
   of_soak seed count form (inl (wordless only, is, does)) = absurd (let same : wordless only ≡ soak seed count = one words (wordless only) (soak seed count) is form in cc)
   of_soak seed count form (inl (soak seed' count', is, (inl did, source_is))) =
-      inl (status_of did.ended.result, (did.ended.turns, did.ran.did.lines,
-      subst (λ (k : KernelView). History (status_of did.ended.result) did.ended.turns did.ran.did.lines k.journal) (sym did.ran.kernel_is)
-      (session_history (made_world old.kernel (script_text seed' count')) did.ran.after did.ended means none did.ran.did)))
+      inl (
+        status_of did.ended.result,
+        (
+          did.ended.turns,
+          did.ran.did.lines,
+          subst (λ (k : KernelView). History (status_of did.ended.result) did.ended.turns did.ran.did.lines k.journal) (sym did.ran.kernel_is)
+              (session_history (made_world old.kernel (script_text seed' count')) did.ran.after did.ended means none did.ran.did),
+        ),
+      )
   of_soak seed count form (inl (soak seed' count', is, (inr (told, kernel_is, sink_is), source_is))) = inr (told, same_world old new kernel_is sink_is source_is)
   of_soak seed count form (inr (inl (no_form, told))) = absurd (no_form (soak seed count) form)
   of_soak seed count form (inr (inr nothing_done)) = inr nothing_done

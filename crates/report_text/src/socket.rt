@@ -52,11 +52,7 @@ fn socket_at(sockets: &SocketTable, place: usize) -> (Name, Socket)
     sockets.at(place).unwrap()
 }
 
-fn write_lines(
-    state: &State,
-    sockets: &SocketTable,
-    out: &mut Vec<u8>,
-) -> Result<(), AllocError>
+fn write_lines(state: &State, sockets: &SocketTable, out: &mut Vec<u8>) -> Result<(), AllocError>
     ensures { Appends out.old out.new result (flat_map (socket_line state.now) sockets.now) }
 {
     for place in 0..sockets.len() {

@@ -17,6 +17,11 @@ pub returns : goal.returns
 returns c =
     let text = numbered c.args.number (mark_line c.args.mark) in
     let short : length (numbered c.args.number (mark_line c.args.mark)) ≤ answer_room =
-    omega (arith, length-append (decimal c.args.number ++ codes ": ") (mark_line c.args.mark), length-append (decimal c.args.number) (codes ": "),
-    digits_10 c.args.number (omega arith), mark_length c.args.mark (omega arith)) in
+    omega (
+      arith,
+      length-append (decimal c.args.number ++ codes ": ") (mark_line c.args.mark),
+      length-append (decimal c.args.number) (codes ": "),
+      digits_10 c.args.number (omega arith),
+      mark_length c.args.mark (omega arith),
+    ) in
     written_ok c.write_new_mark.result text (fits c.write_new_mark.result text answer_room c.write_new_mark.ensures short c.requires.room) c.write_new_mark.ensures

@@ -7,8 +7,7 @@ use Rattle.netd_session.proofs.line.Talk.answer_command.Goals as goal
 
 pub returns-clause-answers : goal.returns-clause-answers
 returns-clause-answers g c =
-    let turn : ℕ → Turn = λ (end : ℕ). record { line = c.args.number; said = said.Answered c.in_ok-answer.answer; journal_end = end } in
-    (
+    let turn : ℕ → Turn = λ (end : ℕ). record { line = c.args.number; said = said.Answered c.in_ok-answer.answer; journal_end = end } in (
       turn c.entry_count.result ∷ [],
       c.put_turn.ensures ∙ ap (λ (xs : List Turn). xs ++ turn c.entry_count.result ∷ []) c.make_room.ensures.turns,
       record {
