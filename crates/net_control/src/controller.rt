@@ -13,7 +13,9 @@ use policy_meaning::{
     barred_stays_in, more_networks_stay_in, own_rule_means_start, table_means_policy,
 };
 use policy_state::{Change, Command, State};
-use rule_compile::{plan_change, plan_ends, plan_law, requests_can_be_asked, start_law, start_plan};
+use rule_compile::{
+    plan_change, plan_ends, plan_law, requests_can_be_asked, start_law, start_plan,
+};
 use std::alloc::{AllocError, Global};
 use std::marker::Model;
 use thiserror::Error;
