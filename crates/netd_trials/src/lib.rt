@@ -1,7 +1,5 @@
-//! Tests of the top call over memory, and of a command that is halted at each place.
+//! Tests of the top call over memory: in pieces, and with reads and writes that fail.
 #![tactic(auto)]
 
-#[cfg(test)]
-mod halting;
 #[cfg(test)]
 mod tests;
