@@ -1,5 +1,5 @@
 -- A table of routes as a trie.
-use Rattle.std.specs.Prelude.{◌≡◌, ℕ, ◌+◌, ◌-◌, ◌*◌, ◌≤◌, IsTrue, List, Option, vec_len, vec_capacity}
+use Rattle.std.specs.Prelude.{ℕ, ◌+◌, ◌-◌, ◌*◌, ◌≤◌, IsTrue, List, Option, vec_len, vec_capacity}
 use Rattle.prefixes.specs.declared.route.Route.{Route}
 use Rattle.fib_table.specs.Table.{are_keys_distinct}
 use Rattle.fib_search.specs.Node.{TrieNode}
@@ -16,12 +16,10 @@ pub record TrieView : Type 0 where
   pub nodes : List (Option TrieNode)
 
 pub record IsKept (t : Inside) : Type 0 where
-  pub distinct : IsTrue (are_keys_distinct t.routes.items)
-  pub trie : IsTrie (nodes_of t.routes.items t.branches.items) t.routes.items
+  pub distinct : IsTrue (are_keys_distinct (routes_of t.chains.entries))
+  pub trie : IsTrie (nodes_of (routes_of t.chains.entries) t.branches.items) (routes_of t.chains.entries)
   pub reached : AreReached t.branches.items
   pub filed : AreFiled t.branches.items t.chains.entries
-  pub order : routes_of t.chains.entries ≡ t.routes.items
-  pub route_room : vec_len t.routes + t.spare ≤ vec_capacity t.routes
   pub chain_room : t.spare ≤ t.chains.room
   -- an addition makes at most two nodes
   pub node_room : vec_len t.branches + 2 * t.spare ≤ vec_capacity t.branches

@@ -16,7 +16,7 @@ use crate::prune::prune;
 use crate::reader::NodeReader;
 use crate::roots::ensure_roots;
 use fib_search::{NodeView, lookup_counted};
-use prefixes::{Addr, Route, same_route};
+use prefixes::{Addr, Route};
 use route_chains::{RouteChains, held};
 use std::alloc::{AllocError, Global};
 use std::marker::Model;
@@ -27,9 +27,8 @@ const MOST: usize = 1 << 56;
 /// Routes in the order of their addition, no two of one key, and the trie of their prefixes.
 #[derive(Drop)]
 pub struct TrieTable {
-    routes: Vec<Route>,
     branches: Vec<Option<Branch>>,
-    /// A chain for each place of a node.
+    /// A chain for each place of a node, and all routes in order.
     chains: RouteChains,
     spare: usize,
     /// How many routes were taken out.
@@ -42,32 +41,16 @@ impl Model for TrieTable {
     ghost Value = { TrieView };
 
     ghost use Rattle.fib_trie.specs.Branches.{nodes_of};
+    ghost use Rattle.fib_trie.specs.Chained.{routes_of};
     ghost use Rattle.fib_trie.specs.Table.{IsKept};
 
     ghost view = { λ t. record {
-      routes = t.routes.items;
+      routes = routes_of t.chains.entries;
       room = t.spare;
-      nodes = nodes_of t.routes.items t.branches.items;
+      nodes = nodes_of (routes_of t.chains.entries) t.branches.items;
     } };
 
     ghost invariant = { IsKept };
-}
-
-fn push_route(routes: &mut Vec<Route>, route: Route)
-    requires { vec_len routes.old < vec_capacity routes.old }
-    ensures items { routes.new.items ≡ routes.old.items ++ route ∷ [] }
-    ensures len { vec_len routes.new ≡ vec_len routes.old + 1 }
-    ensures capacity { vec_capacity routes.new ≡ vec_capacity routes.old }
-{
-    let _ = routes.insert(routes.len(), route);
-}
-
-fn drop_route(routes: &mut Vec<Route>, route: &Route)
-    ensures items { routes.new.items ≡ without_route routes.old.items route.now }
-    ensures len { vec_len routes.new ≤ vec_len routes.old }
-    ensures capacity { vec_capacity routes.old ≤ vec_capacity routes.new }
-{
-    routes.retain(|other| !same_route(other, route));
 }
 
 impl TrieTable {
@@ -76,7 +59,6 @@ impl TrieTable {
         ensures { result.routes ≡ [] }
     {
         TrieTable {
-            routes: Vec::new(alloc),
             branches: Vec::new(alloc),
             chains: RouteChains::new(alloc),
             spare: 0,
@@ -94,10 +76,12 @@ impl TrieTable {
         if more <= self.spare {
             return Ok(());
         }
-        if self.gone <= self.routes.len() {
+        if self.gone <= self.chains.len() {
             return self.make_room(more);
         }
-        match rebuilt(*self.routes.allocator(), &self.routes, more) {
+        let alloc = *self.branches.allocator();
+        let routes = self.chains.routes(alloc)?;
+        match rebuilt(alloc, &routes, more) {
             Ok(table) => {
                 *self = table;
                 Ok(())
@@ -117,10 +101,6 @@ impl TrieTable {
         }
         if more > MOST {
             return Err(AllocError);
-        }
-        match self.routes.reserve(more) {
-            Ok(()) => {}
-            Err(err) => return Err(err),
         }
         match self.branches.reserve(2 * more + 2) {
             Ok(()) => {}
@@ -147,7 +127,6 @@ impl TrieTable {
         ensure_roots(&mut self.branches);
         let place = make_place(&mut self.branches, route.prefix);
         self.chains.push(place, route);
-        push_route(&mut self.routes, route);
         self.spare -= 1;
     }
 
@@ -156,14 +135,14 @@ impl TrieTable {
         ensures len { result ≡ length self.now.routes }
         ensures distinct { IsTrue (are_keys_distinct self.now.routes) }
     {
-        self.routes.len()
+        self.chains.len()
     }
 
     /// The route at a place, in the order of addition.
     pub fn at(&self, place: usize) -> Option<Route>
         ensures { result ≡ slice_get self.now.routes place }
     {
-        self.routes.get(place).copied()
+        self.chains.at(place)
     }
 
     /// Whether a route of this one's key is there.
@@ -186,7 +165,6 @@ impl TrieTable {
             return;
         };
         self.chains.remove(place, route);
-        drop_route(&mut self.routes, route);
         prune(&mut self.branches, &self.chains, route.prefix);
         self.gone = self.gone.saturating_add(1);
     }

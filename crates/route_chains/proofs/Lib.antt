@@ -1,3 +1,4 @@
+mod InOrder
 pub mod Along
 pub mod Changed
 pub mod Edits

@@ -1,5 +1,5 @@
 -- More chains, the new ones empty.
-use Rattle.std.proofs.Common.{◌≡◌, ℕ, ◌+◌, ◌-◌, ◌<◌, ◌≤◌, Bool, true, false, List, ◌++◌, length, get_or, replicate, Option, Some, None, refl, sym, ◌∙◌, subst, arith, rules, inl, inr, length-append, vec_len, vec_capacity}
+use Rattle.std.proofs.Common.{◌≡◌, ℕ, ◌+◌, ◌-◌, ◌<◌, ◌≤◌, Bool, true, false, List, ◌++◌, length, get_or, replicate, Option, Some, None, refl, sym, ◌∙◌, ap, subst, arith, rules, inl, inr, length-append, vec_len, vec_capacity}
 use Rattle.std.specs.Bool.{if◌then◌else◌}
 use Rattle.std.proofs.lemmas.Bool.{cases_lt, ne_eqb}
 use Rattle.std.proofs.lemmas.List.{get_or_append_left, get_or-append_right, get_or-replicate, length-replicate}
@@ -7,7 +7,7 @@ use Rattle.route_chains.specs.declared.slot.Slot.{Slot}
 use Rattle.route_chains.specs.declared.chains.RouteChains.TheInside.{Inside}
 use Rattle.route_chains.specs.Kept.{IsKept}
 use Rattle.route_chains.specs.Places.{held}
-use Rattle.route_chains.specs.Links.{is_of, IsNext, AreLinked, AreHeads, AreWithin}
+use Rattle.route_chains.specs.Links.{entries_of, is_of, IsNext, AreLinked, AreHeads, AreWithin}
 
 -- no slot is of a chain that isn't there
 none_past : (xs : List (Option Slot)) (chains : ℕ) → AreWithin xs chains → (k : ℕ) → chains ≤ k → IsNext k xs 0 None
@@ -34,8 +34,8 @@ pub opened_within : (xs : List (Option Slot)) (few many : ℕ) → few ≤ many 
 opened_within xs few many le within place s at = let h = within place s at in omega (arith, h, le)
 
 pub kept_opened : (t u : Inside) → IsKept t → u.slots.items ≡ t.slots.items → (b : Bool) (n : ℕ) → u.heads.items ≡ (if b then t.heads.items ++ replicate n None else t.heads.items)
-    → vec_len t.heads ≤ vec_len u.heads → vec_len u.slots + u.spare ≤ vec_capacity u.slots → IsKept u
-kept_opened t u kept slots b n heads longer room =
+    → vec_len t.heads ≤ vec_len u.heads → vec_len u.slots + u.spare ≤ vec_capacity u.slots → u.gaps ≡ t.gaps → IsKept u
+kept_opened t u kept slots b n heads longer room gaps =
     let few : length t.heads.items ≡ vec_len t.heads = search rules in
     let many : length u.heads.items ≡ vec_len u.heads = search rules in
     record {
@@ -45,4 +45,5 @@ kept_opened t u kept slots b n heads longer room =
         within = subst (λ xs. AreWithin xs (length u.heads.items)) (sym slots) (opened_within t.slots.items (length t.heads.items) (length u.heads.items) (omega (arith, few, many, longer)) kept.chains.within);
       };
       room = room;
+      gaps = subst (λ xs. u.gaps + length (entries_of xs) ≡ length xs) (sym slots) (ap (λ g. g + length (entries_of t.slots.items)) gaps ∙ kept.gaps);
     }

@@ -15,6 +15,10 @@ pub record ChainsView : Type 0 where
   -- the number of additions that take no memory
   pub room : ℕ
 
+-- the routes of all chains, in order of addition
+abbrev pub routes_of : List Chained → List Route
+routes_of entries = map (λ (e : Chained). e.route) entries
+
 -- a chain's routes, in order of addition
 abbrev pub chain_of : ℕ → List Chained → List Route
 chain_of k entries = map (λ (e : Chained). e.route) (filter (λ (e : Chained). e.chain == k) entries)

@@ -1,8 +1,8 @@
-ghost use Rattle.std.specs.Prelude.{◌≡◌, ℕ, ◌+◌, ◌-◌, ◌<◌, ◌≤◌, ◌&&◌, [], ◌∷◌, ◌++◌, OnOk, IsTrue, find, is_ok, nat_lt, if◌then◌else◌, None, Some, length, replicate, slice_set, vec_len, vec_capacity};
+ghost use Rattle.std.specs.Prelude.{◌≡◌, ℕ, ◌+◌, ◌-◌, ◌<◌, ◌≤◌, ◌&&◌, [], ◌∷◌, ◌++◌, IfOk, OnOk, IsTrue, find, slice_get, is_ok, nat_lt, if◌then◌else◌, None, Some, length, replicate, slice_set, vec_len, vec_capacity};
 ghost use Rattle.std.specs.List.{list_any};
 ghost use Rattle.std.specs.Option.{option_map};
 ghost use Rattle.prefixes.specs.Route.{link_of, suits, same_key, same_route};
-ghost use Rattle.route_chains.specs.Chains.{chain_of, TakesOut};
+ghost use Rattle.route_chains.specs.Chains.{chain_of, routes_of, TakesOut};
 ghost use Rattle.route_chains.specs.Found.{route_at};
 ghost use Rattle.route_chains.specs.Links.{AreChains, entries_of, with_next, relinked, reheaded};
 ghost use Rattle.route_chains.specs.Places.{held};
@@ -21,6 +21,8 @@ pub struct RouteChains {
     slots: Vec<Option<Slot>>,
     heads: Vec<Option<usize>>,
     spare: usize,
+    /// How many slots are empty.
+    gaps: usize,
 }
 
 impl Model for RouteChains {
@@ -118,6 +120,34 @@ fn route_at(slots: &[Option<Slot>], place: Option<usize>) -> Option<Route>
     }
 }
 
+// The route of the full slot that has so many full ones before it.
+fn nth_route(slots: &[Option<Slot>], place: usize) -> Option<Route>
+    ensures { result ≡ slice_get (routes_of (entries_of slots.now)) place }
+{
+    let mut left = place;
+    for slot in slots {
+        if let Some(slot) = slot {
+            if left == 0 {
+                return Some(slot.route);
+            }
+            left -= 1;
+        }
+    }
+    None
+}
+
+fn routes_in(alloc: Global, slots: &[Option<Slot>]) -> Result<Vec<Route>, AllocError>
+    ensures { IfOk result (λ routes. routes.items ≡ routes_of (entries_of slots.now)) }
+{
+    let mut routes = Vec::new(alloc);
+    for slot in slots {
+        if let Some(slot) = slot {
+            routes.push(slot.route)?;
+        }
+    }
+    Ok(routes)
+}
+
 // Puts a slot last in its chain.
 fn add_slot(
     slots: &mut Vec<Option<Slot>>,
@@ -188,6 +218,7 @@ impl RouteChains {
             slots: Vec::new(alloc),
             heads: Vec::new(alloc),
             spare: 0,
+            gaps: 0,
         }
     }
 
@@ -238,6 +269,33 @@ impl RouteChains {
         ensures room { self.new.room ≡ self.old.room }
     {
         cut_slot(&mut self.slots, &mut self.heads, chain, *route);
+        self.gaps += 1;
+    }
+
+    /// How many routes there are.
+    pub fn len(&self) -> usize
+        ensures { result ≡ length self.now.entries }
+    {
+        self.slots.len() - self.gaps
+    }
+
+    /// The route at a place, in the order of addition. It is found at once where no route was taken out since the slots
+    /// were made, and else along them.
+    pub fn at(&self, place: usize) -> Option<Route>
+        ensures { result ≡ slice_get (routes_of self.now.entries) place }
+    {
+        if self.gaps == 0 {
+            route_at(&self.slots, Some(place))
+        } else {
+            nth_route(&self.slots, place)
+        }
+    }
+
+    /// The routes, in the order of their addition.
+    pub fn routes(&self, alloc: Global) -> Result<Vec<Route>, AllocError>
+        ensures { IfOk result (λ routes. routes.items ≡ routes_of self.now.entries) }
+    {
+        routes_in(alloc, &self.slots)
     }
 
     /// The first route of a chain that suits a packet with this binding.
