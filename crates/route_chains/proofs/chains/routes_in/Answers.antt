@@ -17,6 +17,6 @@ loop-slot-preserved c =
     one-more slots i c.slot-item.result c.loop-slot-test.true c.slot-item.is in
     elim c.match-slot.branch [
       | in-Some+in_ok-push w ↦ rw w.routes-is (w.in_ok-push.ensures.items ∙ ap (λ (rs : List Route). rs ++ w.in-Some.slot.route ∷ []) c.loop-slot.invariant
-        ∙ sym (more ∙ ap (λ (o : Option Slot). so_far ++ routes_of (entries_of (o ∷ []))) w.in-Some.is))
+          ∙ sym (more ∙ ap (λ (o : Option Slot). so_far ++ routes_of (entries_of (o ∷ []))) w.in-Some.is))
       | in_default w ↦ rw w.routes-is (c.loop-slot.invariant ∙ sym (append-nil so_far) ∙ sym (more ∙ ap (λ (o : Option Slot). so_far ++ routes_of (entries_of (o ∷ []))) w.in_default.is))
     ]
