@@ -20,6 +20,12 @@ def limit_cases():
     yield interfaces_at_the_limit()
     yield routes_at_the_limit()
     yield ranges_at_the_limit()
+    yield network_ranges_at_the_limit()
+    yield rules_at_the_limit()
+    yield pairs_at_the_limit()
+    yield users_at_the_limit("permission", "permission user %d system", "permission clear %d")
+    yield users_at_the_limit("protect", "protect allow %d", "protect deny %d")
+    yield sockets_at_the_limit()
     yield from orders()
 
 
@@ -73,6 +79,54 @@ def ranges_at_the_limit():
     full = refused("ENOSPC", "lockdown add 1000-1000") + refused("EEXIST", "lockdown add 999-1000", "lockdown add 0-4294967294")
     full += refused("ENOENT", "lockdown remove 1000-1000", "lockdown remove 0-1", "lockdown remove 0-999")
     return dialog("limit-ranges", ranges + full + done("lockdown remove 999-999", "lockdown add 999-1000"))
+
+
+def network_ranges_at_the_limit():
+    """1,000 ranges of a network, of whatever ranks. One that shares a UID with another of its rank is refused as such even then."""
+    built = done("network create 200 virtual secure", "network create 100 physical none")
+    ranges = done(*("users add 200 rank %d %d-%d" % (uid % 100, uid, uid) for uid in range(1000)))
+    full = refused("EEXIST", "users add 200 rank 0 100-100") + refused("ENOSPC", "users add 200 1000-1000", "users add 200 rank 99 1000-1001")
+    full += done("users remove 200 7-7,8-8", "users add 200 1000-1000,1001-1001") + refused("ENOSPC", "users add 200 7-7")
+    return dialog("limit-network-ranges", built + ranges + full + done("app add 100 0 0-999"))
+
+
+def rules_at_the_limit():
+    """Two VPNs of 8 interfaces have 51 rules with those that are always there, and each range adds 24: with 1,664 of them there are 39,987 of
+    40,000."""
+    built = []
+    for net in (200, 201):
+        built.append("network create %d virtual secure" % net)
+        for place in range(8):
+            built += ["link add n%di%d %d" % (net, place, 8 * (net - 200) + place + 2), "interface add %d n%di%d" % (net, net, place)]
+    first = done("users add 200 %s" % ",".join("%d-%d" % (uid, uid) for uid in range(30)))
+    ranges = done(*("users add 200 %d-%d" % (uid, uid) for uid in range(30, 1000)), *("users add 201 %d-%d" % (uid, uid) for uid in range(1000, 1664)))
+    full = refused("ENOSPC", "users add 201 1664-1664") + done("users remove 201 1663-1663", "users add 201 1664-1664") + refused("ENOSPC", "users add 201 1663-1663")
+    return dialog("limit-rules", done(*built) + first + ranges + full)
+
+
+def pairs_at_the_limit():
+    """1,000 tether pairs. One that is there is refused as such even then."""
+    built = done("link add out 2", "network create 100 physical none", "interface add 100 out", *("link add i%d %d" % (k, k + 3) for k in range(1001)))
+    pairs = done(*("tether add i%d out" % k for k in range(1000)))
+    full = refused("EEXIST", "tether add i0 out") + refused("ENOSPC", "tether add i1000 out")
+    return dialog("limit-pairs", built + pairs + full + done("tether remove i0 out", "tether add i1000 out") + refused("ENOSPC", "tether add i0 out"))
+
+
+def users_at_the_limit(name, set_line, unset_line):
+    """10,000 users. One that is there is set again even then, and one that isn't there is unset in vain."""
+    full = refused("ENOSPC", set_line % 10_000) + done(set_line % 0, set_line % 9_999, unset_line % 10_000) + refused("ENOSPC", set_line % 10_001)
+    room = done(unset_line % 0, set_line % 10_000) + refused("ENOSPC", set_line % 0)
+    return dialog("limit-" + name, done(*(set_line % uid for uid in range(10_000))) + full + room)
+
+
+def sockets_at_the_limit():
+    """10,000 sockets. A name that one has is refused as such even then."""
+    def opened(*names):
+        return [("socket open %s 10000" % name, "mark 0x0") for name in names]
+
+    full = refused("EEXIST", "socket open s0 10000") + refused("ENOSPC", "socket open more 10000")
+    room = done("socket close s0") + opened("more") + refused("ENOSPC", "socket open s0 10000")
+    return dialog("limit-sockets", opened(*("s%d" % k for k in range(10_000))) + full + room)
 
 
 def orders():
