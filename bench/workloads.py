@@ -49,6 +49,30 @@ def one_table(count):
         yield f"route add 100 n100i0 {11 + k // 65536}.{k // 256 % 256}.{k % 256}.0/24"
 
 
+def routes_in_one_table(count):
+    """The default network with so many routes."""
+    yield from networks(1, 1)
+    yield "default set 100"
+    yield from one_table(count)
+
+
+def all_but_8000(count):
+    yield from networks(1, 1)
+    yield from itertools.islice(one_table(count), count - 8_000)
+
+
+def last_8000(count):
+    """The last 8,000 of so many routes into one table."""
+    return itertools.islice(one_table(count), count - 8_000, None)
+
+
+def packets_by_routes(count):
+    """Packets to addresses all over so many routes, no two near each other in turn."""
+    for k in range(60_000):
+        place = k * 7_919 % count
+        yield f"packet 10050 0x0 {11 + place // 65536}.{place // 256 % 256}.{place % 256}.{k % 256}"
+
+
 def small_commands(count):
     for group in range(count // 4):
         first = 10_000 + 10 * (group % 1_000)
@@ -109,6 +133,8 @@ WORKLOADS = (
     Workload("permissions of networks", (40, 400), lambda n: networks(n, 8), permissions, 1.5),
     Workload("routes into many tables", (40, 400), lambda n: networks(n, 1), lambda n: routes_of(n, 50), 1.5),
     Workload("routes into one table", (1_600, 16_000), lambda n: networks(1, 1), one_table, 1.5),
+    Workload("8,000 routes and 8,000 more", (8_000, 16_000), all_but_8000, last_8000, 1.5),
+    Workload("a packet by the routes", (10, 16_000), routes_in_one_table, packets_by_routes, 2),
     Workload("a full network is destroyed", (1_600, 16_000), full_network, lambda n: ["network destroy 100"], 12),
     Workload("a packet by the rules", (1, 1_664), vpns, packets, 3),
     Workload("a command by the rules", (1, 1_664), vpns, lockdowns, 5),
