@@ -1,8 +1,10 @@
-// Stands before the C library's allocator: the FAIL_ALLOC-th call that asks for memory gets none. With FAIL_ALLOC 0 none fails.
+// Stands before the C library's allocator: the FAIL_ALLOC-th call that asks for memory gets none. With FAIL_ALLOC 0 none fails. At its
+// end the program leaves the number of calls in the file FAIL_ALLOC_COUNT.
 #define _GNU_SOURCE
 #include <dlfcn.h>
 #include <errno.h>
 #include <stddef.h>
+#include <stdio.h>
 #include <stdlib.h>
 
 static unsigned long calls;
@@ -38,4 +40,13 @@ int posix_memalign(void **out, size_t align, size_t size) {
     static int (*next)(void **, size_t, size_t);
     if (!next) next = (int (*)(void **, size_t, size_t))dlsym(RTLD_NEXT, "posix_memalign");
     return fails() ? ENOMEM : next(out, align, size);
+}
+
+__attribute__((destructor)) static void leave_count(void) {
+    unsigned long made = calls;
+    const char *name = getenv("FAIL_ALLOC_COUNT");
+    FILE *file = name ? fopen(name, "w") : NULL;
+    if (!file) return;
+    fprintf(file, "%lu\n", made);
+    fclose(file);
 }

@@ -203,10 +203,11 @@ def large_inputs():
 
 
 def full_journal():
-    """A range is locked down and set free until the journal has 999,998 entries: another two might have to be undone."""
+    """A range is locked down and set free until the journal has 999,998 entries: another two might have to be undone.
+    A command that asks for nothing is carried out even then."""
     lines = [b"lockdown add 0-9", b"lockdown remove 0-9"] * 249_998
     said = [b"%d: done" % number for number in range(1, len(lines) + 1)]
-    lines += [b"lockdown add 0-9", b"lockdown remove 0-9", b"packet 5 0x0 8.8.8.8"]
-    said += [b"499997: refused ENOSPC", b"499998: refused ENOENT", b"499999: mark 0x0 unreachable"]
+    lines += [b"lockdown add 0-9", b"default clear", b"lockdown remove 0-9", b"packet 5 0x0 8.8.8.8"]
+    said += [b"499997: refused ENOSPC", b"499998: done", b"499999: refused ENOENT", b"500000: mark 0x0 unreachable"]
     said += [b"  0 lookup 255", b"  17000 lookup 97", b"  32000 unreachable"]
     return b"\n".join(lines) + b"\n", b"\n".join(said) + b"\n"

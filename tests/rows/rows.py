@@ -12,6 +12,7 @@ from lines import line_cases
 from made import made_cases
 from texts import USAGE, text_cases
 from transcripts import transcript_cases
+from vpn import vpn_cases
 from watches import watch_cases
 
 HERE = pathlib.Path(__file__).parent
@@ -102,6 +103,7 @@ def main():
         *watch_cases(),
         *edge_cases(),
         *failing_cases(),
+        *vpn_cases(),
         *transcript_cases(),
     ]:
         if not any(fnmatch.fnmatch(case.name, pattern) for pattern in patterns):

@@ -1,3 +1,4 @@
 mod Placed
 mod Pushed
 mod Steps
+mod Totals

@@ -1,6 +1,6 @@
 -- The room that a table which is ready has.
-use Rattle.std.specs.Prelude.{◌≡◌, ℕ, ◌<◌, ◌≤◌, List, [], Option, Some, None, length, get_or}
-use Rattle.kernel_ledger.specs.Tables.{RoomyTable, place_of, empty}
+use Rattle.std.specs.Prelude.{◌≡◌, ℕ, ◌<◌, ◌≤◌, List, [], Option, Some, None, length, get_or, map}
+use Rattle.kernel_ledger.specs.Tables.{RoomyTable, place_of, table_of, empty, route_total}
 
 -- the table is there and has room, or an empty one with room stands aside, and there is room to put it last
 pub record HasRoom (n : ℕ) (tables : List RoomyTable) (more : ℕ) (fresh : Option RoomyTable) : Type 0 where
@@ -11,3 +11,8 @@ pub record HasRoom (n : ℕ) (tables : List RoomyTable) (more : ℕ) (fresh : Op
 abbrev pub ReadyHasRoom : Option ℕ → List RoomyTable → ℕ → Option RoomyTable → Type 0
 ReadyHasRoom None tables more fresh = Unit {0}
 ReadyHasRoom (Some n) tables more fresh = HasRoom n tables more fresh
+
+-- the table that is ready has its room, and the routes are counted
+pub record AreKept (ready : Option ℕ) (tables : List RoomyTable) (more : ℕ) (fresh : Option RoomyTable) (total : ℕ) : Type 0 where
+  pub ready_has_room : ReadyHasRoom ready tables more fresh
+  pub counted : total ≡ route_total (map table_of tables)

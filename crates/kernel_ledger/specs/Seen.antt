@@ -1,10 +1,12 @@
 -- What contracts see of a ledger.
-use Rattle.std.specs.Prelude.{ℕ, List, [], Option, Some, None, IsSome, refl}
+use Rattle.std.specs.Prelude.{◌≡◌, ℕ, false, List, [], Option, Some, None, IsSome, is_some, refl}
 use Rattle.std.specs.Option.{option_map}
-use Rattle.std.proofs.Common.{arith}
-use Rattle.kernel_model.specs.View.{KernelView, Lists, IsSound, IfListed}
+use Rattle.std.proofs.Common.{arith, sym, ◌∙◌}
+use Rattle.std.proofs.lemmas.Bool.{false≢true}
+use Rattle.kernel_model.specs.View.{KernelView, Lists, Room, IsSound, IfListed}
 use Rattle.kernel_model.specs.declared.request.Entry.{Entry}
 use Rattle.kernel_ledger.specs.Kept.{lists_of, IsKept}
+use Rattle.kernel_ledger.specs.Tables.{TablesView}
 use Rattle.kernel_ledger.specs.declared.ledger.FailLists.{FailLists}
 use Rattle.kernel_ledger.specs.declared.ledger.Ledger.{Ledger}
 
@@ -15,6 +17,10 @@ seen_by l = record { journal = l.journal.items; lists = option_map lists_of l.li
 -- for how many entries it has room
 abbrev pub spare_of : Ledger → ℕ
 spare_of l = l.spare
+
+-- its room, and that of these tables
+abbrev pub room_by : Ledger → TablesView → Room
+room_by l tables = record { spare = l.spare; ready = tables.ready }
 
 -- an empty journal, and these lists
 abbrev pub starting : Option Lists → KernelView
@@ -34,3 +40,7 @@ sound_by l ready = record {
 pub some_lists : (lists : Option FailLists) → IsSome lists → IsSome (option_map lists_of lists)
 some_lists None h = h
 some_lists (Some lists) h = h
+
+-- what is known to keep no lists keeps none
+pub no_lists : {A : Type 0} (lists : Option Lists) → is_some lists ≡ false → IsSome lists → A
+no_lists lists none some = absurd (false≢true (sym none ∙ some))

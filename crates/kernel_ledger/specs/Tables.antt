@@ -1,5 +1,5 @@
 -- Tables of routes with their room, and the table for which a route's room is there.
-use Rattle.std.specs.Prelude.{ℕ, ◌==◌, List, [], Option}
+use Rattle.std.specs.Prelude.{ℕ, ◌+◌, ◌==◌, List, [], ◌∷◌, length, Option}
 use Rattle.std.specs.List.{position_or_len}
 use Rattle.kernel_model.specs.State.{NumberedTable}
 use Rattle.prefixes.specs.declared.route.Route.{Route}
@@ -22,3 +22,8 @@ place_of n ts = position_or_len (λ t. t.number == n) ts
 
 abbrev pub empty : RoomyTable
 empty = record { number = 0; routes = []; room = 0 }
+
+-- the number of the routes of all tables together
+abbrev pub route_total : List NumberedTable → ℕ
+route_total [] = 0
+route_total (t ∷ ts) = length t.routes + route_total ts

@@ -1,4 +1,4 @@
-ghost use Rattle.std.specs.Prelude.{◌≡◌, [], ◌∷◌, ◌++◌, ◌+◌, ◌-◌, ◌<◌, ◌≤◌, max, length, slice_get, Some, None, IsTrue, IsSome, OnOk, OnErr, vec_len, vec_capacity, is_ok, if◌then◌else◌};
+ghost use Rattle.std.specs.Prelude.{◌≡◌, [], ◌∷◌, ◌++◌, ◌+◌, ◌-◌, ◌<◌, ◌≤◌, max, length, slice_get, Some, None, IsTrue, true, false, not, IsSome, OnOk, OnErr, vec_len, vec_capacity, is_ok, if◌then◌else◌};
 ghost use Rattle.std.specs.Option.{option_map};
 ghost use Rattle.kernel_model.specs.State.{is_absent, is_present};
 ghost use Rattle.kernel_model.specs.Journal.{entry, asks_addition, fails, may_stand, is_listed};
@@ -131,15 +131,18 @@ impl Ledger {
         }
     }
 
-    /// Asks for an addition, which is refused where the lists say so.
-    pub fn ask_addition(&mut self, request: Request) -> Result<(), KernelFault>
+    /// Asks for an addition, and writes down whether it is refused.
+    pub fn ask_addition(&mut self, request: Request, refused: bool) -> Result<(), KernelFault>
         requires absent { IsTrue (is_absent (state_of (seen_by self.old)) request) }
+        requires listed { IsSome (seen_by self.old).lists → refused ≡
+            fails_next (seen_by self.old).lists (seen_by self.old).journal true }
         requires spare { 0 < spare_of self.old }
+        ensures cause { is_ok result ≡ not refused }
         ensures grown { seen_by self.new ≡ grown (seen_by self.old)
             (entry (if is_ok result then Added else Refused) request ∷ []) }
         ensures spare { spare_of self.new ≡ spare_of self.old - 1 }
     {
-        if self.fails_next(true) {
+        if refused {
             self.write(EntryKind::Refused, request);
             return Err(KernelFault);
         }
@@ -147,15 +150,18 @@ impl Ledger {
         Ok(())
     }
 
-    /// Asks for a deletion, which breaks where the lists say so.
-    pub fn ask_deletion(&mut self, request: Request) -> Result<(), KernelFault>
+    /// Asks for a deletion, and writes down whether it breaks.
+    pub fn ask_deletion(&mut self, request: Request, breaks: bool) -> Result<(), KernelFault>
         requires present { IsTrue (is_present (state_of (seen_by self.old)) request) }
+        requires listed { IsSome (seen_by self.old).lists → breaks ≡
+            fails_next (seen_by self.old).lists (seen_by self.old).journal false }
         requires spare { 0 < spare_of self.old }
+        ensures cause { is_ok result ≡ not breaks }
         ensures grown { seen_by self.new ≡ grown (seen_by self.old)
             (entry (if is_ok result then Deleted else Broken) request ∷ []) }
         ensures spare { spare_of self.new ≡ spare_of self.old - 1 }
     {
-        if self.fails_next(false) {
+        if breaks {
             self.write(EntryKind::Broken, request);
             return Err(KernelFault);
         }

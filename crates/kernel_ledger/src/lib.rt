@@ -2,12 +2,14 @@
 //! their order.
 #![tactic(auto)]
 
+mod faults;
 mod kernel;
 mod ledger;
 mod numbered;
 mod rule_store;
 mod tables;
 
+pub use faults::{ByLists, ByQuota, Faults};
 pub use kernel::LedgerKernel;
 pub use ledger::Ledger;
 pub use rule_store::RuleStore;

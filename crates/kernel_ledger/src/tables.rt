@@ -1,9 +1,9 @@
-ghost use Rattle.std.specs.Prelude.{◌≡◌, ◌==◌, [], ◌∷◌, ◌++◌, ◌-◌, Some, None, IfOk, OnOk, IsTrue, IsFalse, length, ◌<◌, ◌≤◌, MatchOption, get_or, set, slice_get, map, vec_len, vec_capacity};
+ghost use Rattle.std.specs.Prelude.{◌≡◌, ◌==◌, [], ◌∷◌, ◌++◌, ◌+◌, ◌-◌, Some, None, IfOk, OnOk, IsTrue, IsFalse, length, ◌<◌, ◌≤◌, MatchOption, get_or, set, slice_get, map, vec_len, vec_capacity};
 ghost use Rattle.std.specs.List.{position};
 ghost use Rattle.prefixes.specs.Best.{best};
 ghost use Rattle.fib_table.specs.Table.{has_key, has_route, without_route};
 ghost use Rattle.kernel_model.specs.State.{device_table, start, loopback4, loopback6, loopback, put_route, cut_route, routes_of};
-ghost use Rattle.kernel_ledger.specs.Tables.{RoomyTable, table_of, place_of, empty};
+ghost use Rattle.kernel_ledger.specs.Tables.{RoomyTable, table_of, place_of, empty, route_total};
 
 use crate::numbered::NumberedTable;
 use kernel_model::DEVICE_TABLE;
@@ -19,6 +19,8 @@ pub struct Tables {
     /// An empty table that `add` puts last, where the ready one isn't there.
     fresh: Option<NumberedTable>,
     ready: Option<u32>,
+    /// The number of the routes of all tables.
+    total: u64,
 }
 
 impl Model for Tables {
@@ -28,12 +30,12 @@ impl Model for Tables {
 
     ghost use Rattle.std.specs.Prelude.{map, ◌-◌, vec_len, vec_capacity};
     ghost use Rattle.kernel_ledger.specs.Tables.{table_of};
-    ghost use Rattle.kernel_ledger.specs.Room.{ReadyHasRoom};
+    ghost use Rattle.kernel_ledger.specs.Room.{AreKept};
 
     ghost view = { λ a. record { tables = map table_of a.tables.items; ready = a.ready } };
 
-    ghost invariant = { λ a. ReadyHasRoom a.ready a.tables.items
-        (vec_capacity a.tables - vec_len a.tables) a.fresh };
+    ghost invariant = { λ a. AreKept a.ready a.tables.items
+        (vec_capacity a.tables - vec_len a.tables) a.fresh a.total };
 }
 
 /// By the link `lo`.
@@ -125,19 +127,23 @@ fn add_last(
     let _ = tables.push(table);
 }
 
-// Takes a route out of the table at a place.
-fn delete_at(tables: &mut Vec<NumberedTable>, place: usize, route: &Route)
+// Takes a route out of the table at a place, and tells how many routes it has less.
+fn delete_at(tables: &mut Vec<NumberedTable>, place: usize, route: &Route) -> u64
     requires within { place < length tables.old.items }
     requires there { IsTrue (has_route (get_or tables.old.items place empty).routes route.now) }
     ensures cut { (w : RoomyTable) × (tables.new.items ≡ set tables.old.items place w) ×
         (w.number ≡ (get_or tables.old.items place empty).number)
         × (w.routes ≡ without_route (get_or tables.old.items place empty).routes route.now) ×
         ((get_or tables.old.items place empty).room ≤ w.room) }
+    ensures gone { route_total (map table_of tables.new.items) + result ≡
+        route_total (map table_of tables.old.items) }
     ensures capacity { vec_capacity tables.new - vec_len tables.new ≡
         vec_capacity tables.old - vec_len tables.old }
 {
     let there = &mut tables[place];
+    let before = there.len();
     there.remove(route);
+    (before - there.len()) as u64
 }
 
 // Makes room in the table at a place.
@@ -164,6 +170,7 @@ impl Tables {
             tables,
             fresh: None,
             ready: None,
+            total: 2,
         })
     }
 
@@ -202,10 +209,12 @@ impl Tables {
     pub fn add(&mut self, table: u32, route: Route)
         requires absent { IsFalse (has_key (routes_of table self.old.tables) route) }
         requires ready { self.old.ready ≡ Some table }
+        requires total { route_total self.old.tables < u64.MAX }
         ensures tables { self.new.tables ≡ put_route table route self.old.tables }
         ensures ready { self.new.ready ≡ None }
     {
         self.ready = None;
+        self.total += 1;
         match find_table(&self.tables, table) {
             Some(place) => add_at(&mut self.tables, place, route),
             None => add_last(&mut self.tables, self.fresh.take(), table, route),
@@ -219,8 +228,15 @@ impl Tables {
         ensures ready { self.new.ready ≡ self.old.ready }
     {
         if let Some(place) = find_table(&self.tables, table) {
-            delete_at(&mut self.tables, place, route);
+            self.total -= delete_at(&mut self.tables, place, route);
         }
+    }
+
+    /// The number of the routes of all tables.
+    pub fn total(&self) -> u64
+        ensures { result ≡ route_total self.now.tables }
+    {
+        self.total
     }
 
     pub fn route_count(&self, table: u32) -> usize

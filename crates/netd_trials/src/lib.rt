@@ -1,5 +1,13 @@
-//! Tests of the top call over memory: in pieces, and with reads and writes that fail.
+//! Tests of whole runs over memory: in pieces, with reads and writes that fail, and over each kernel.
 #![tactic(auto)]
 
+#[cfg(test)]
+mod alike;
+#[cfg(test)]
+mod over_memory;
+#[cfg(test)]
+mod quota;
+#[cfg(test)]
+mod streams;
 #[cfg(test)]
 mod tests;

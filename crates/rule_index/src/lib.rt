@@ -7,7 +7,7 @@ mod sorted;
 mod spot;
 
 pub use index::RuleIndex;
-use kernel_ledger::LedgerKernel;
+use kernel_ledger::{ByLists, LedgerKernel};
 
 /// A kernel that finds its rules by what they select, and fails where it is told to.
-pub type IndexedKernel = LedgerKernel<RuleIndex>;
+pub type IndexedKernel = LedgerKernel<RuleIndex, ByLists>;

@@ -1,8 +1,11 @@
-use Rattle.std.proofs.Common.{sym, ap}
+use Rattle.std.proofs.Common.{sym, ap, arith}
 use Rattle.kernel_model.specs.declared.request.EntryKind.TheVariants.{Added, Refused}
 use Rattle.kernel_model.specs.declared.request.Request.TheVariants as req
+use Rattle.kernel_model.specs.State.{KernelState, start}
 use Rattle.kernel_ledger.specs.Seen.{seen_by}
+use Rattle.kernel_ledger.specs.Tables.{route_total}
 use Rattle.kernel_ledger.proofs.Steps.{acted, of_parts}
+use Rattle.kernel_ledger.proofs.Totals.{total-replay}
 use Rattle.kernel_ledger.proofs.kernel.LedgerKernelKernel.add_route.Goals as goal
 
 pub invariant_of-self-clause-replayed : goal.invariant_of-self-clause-replayed
@@ -14,3 +17,9 @@ pub invariant_of-self-in-Ok-clause-replayed : goal.invariant_of-self-in-Ok-claus
 invariant_of-self-in-Ok-clause-replayed g c =
     acted (seen_by c.args.self.now.ledger) (seen_by c.ask_addition.new.self) Added (req.Route c.args.table c.args.route.now) _ _ (rw c.in-Ok.is at c.ask_addition.ensures.grown) c.args.self.now.replayed
     (ap (of_parts (g.R.RuleStore.rules c.args.self.now.rules4) (g.R.RuleStore.rules c.args.self.now.rules6)) (sym c.add.ensures.tables))
+
+pub add-requires-clause-total : goal.add-requires-clause-total
+add-requires-clause-total g c =
+    let ledger = c.args.self.now.ledger in
+    let left = ap (λ (k : KernelState). route_total k.tables) c.args.self.now.replayed in
+    omega (arith, left, total-replay start ledger.journal.items, ledger.journal.ok, ledger.journal.small)

@@ -12,7 +12,7 @@ invariant_of-self g c =
           acted (seen_by c.args.self.now.ledger) (seen_by c.ask_deletion.new.self) Broken (req.Rule c.args.family c.args.rule.now) _ _ (rw c.in-Err.is at c.ask_deletion.ensures.grown) c.args.self.now.replayed refl;
       rules4_room = let h = c.args.self.now.rules4_room in omega (arith, h, c.ask_deletion.ensures.spare);
       rules6_room = let h = c.args.self.now.rules6_room in omega (arith, h, c.ask_deletion.ensures.spare);
-      has_lists = search rules;
+      keeps_lists = search rules;
     }
 
 pub invariant_of-self-in-V4-clause-replayed : goal.invariant_of-self-in-V4-clause-replayed
