@@ -1,5 +1,5 @@
 -- No row asks for a network's routes.
-use Rattle.std.proofs.Common.{◌≡◌, ◌∙◌, ℕ, Bool, true, false, Option, Some, None, List, [], ◌∷◌, ◌++◌, refl, ap, map, sym}
+use Rattle.std.proofs.Common.{◌≡◌, ◌∙◌, ℕ, Bool, true, false, Option, Some, None, List, [], ◌++◌, refl, ap, map}
 use Rattle.std.specs.Prelude.{flat_map, if◌then◌else◌}
 use Rattle.std.specs.Option.{option_map}
 use Rattle.networks.specs.declared.network.Network.{Network}
@@ -14,7 +14,7 @@ use Rattle.policy_state.specs.declared.row.OnePer.TheVariants.{Once, EachLockdow
 use Rattle.policy_state.specs.declared.row.Row.{Row}
 use Rattle.rule_compile.specs.PartOf.{unrouted_part}
 use Rattle.rule_compile.specs.Shapes.{unrouted}
-use Rattle.rule_compile.specs.Touched.{Part, reaches, items_of, part_items, part_rules, splitting, listed}
+use Rattle.rule_compile.specs.Touched.{Part, reaches, items_of, part_items, part_rules, listed}
 use Rattle.rule_compile.proofs.TouchedItems.{picks-linked}
 use Rattle.rule_compile.proofs.TouchedNetworks.{flat-alike, flat-none}
 
