@@ -12,7 +12,6 @@ use Rattle.prefixes.specs.declared.addr.Addr.{Addr}
 use Rattle.script_reader.specs.declared.line.Line.{Line}
 use Rattle.script_reader.specs.declared.line.Line.TheVariants as line
 use Rattle.script_reader.specs.declared.line.ShowLine.{ShowLine}
-use Rattle.script_reader.specs.declared.line.ShowLine.TheVariants as show
 use Rattle.script_reader.specs.declared.line.SocketLine.{SocketLine}
 use Rattle.script_reader.specs.declared.line.SocketLine.TheVariants as socket
 use Rattle.script_reader.specs.declared.line.TraceLine.{TraceLine}
@@ -66,10 +65,7 @@ module _ (n : ℕ) (s e : Standing) (turns : List Turn) (out : List ℕ) where
   trace_keeps trace.WatchOff is = keeps_as s (record s { watch = None }) e is.0 refl refl
 
   show_keeps : (question : ShowLine) → IsAnsweredLine (line.Show question) n s e turns out → Keeps s e
-  show_keeps (show.Rules family) is = keeps_all s e is.0
-  show_keeps (show.Table number) is = keeps_all s e is.0
-  show_keeps show.Networks is = keeps_all s e is.0
-  show_keeps show.Sockets is = keeps_all s e is.0
+  show_keeps question is = keeps_all s e is.0
 
   -- the sockets and the watch may differ
   but_sockets : (next : Standing) → e ≡ next → next.kernel ≡ s.kernel → next.controller ≡ s.controller → Keeps s e

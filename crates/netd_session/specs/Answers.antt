@@ -1,11 +1,11 @@
 -- What a line's answer says, and what it changes.
 use Rattle.std.specs.Prelude.{◌≡◌, ◌⊎◌, ℕ, List, [], ◌∷◌, ◌++◌, codes, Option, None, Some, Ok}
 use Rattle.kernel_model.specs.Form.{AreWellFormed}
-use Rattle.kernel_model.specs.State.{rules_of, routes_of}
+use Rattle.kernel_model.specs.State.{KernelState, rules_of, routes_of}
 use Rattle.kernel_model.specs.View.{state_of}
 use Rattle.kernel_model.specs.Walk.{trail_of}
 use Rattle.kernel_model.specs.declared.step.Step.{Step}
-use Rattle.mark_server.specs.Sockets.{socket_of}
+use Rattle.mark_server.specs.Sockets.{Sockets, socket_of}
 use Rattle.mark_server.specs.declared.socket.Socket.{Socket}
 use Rattle.net_control.specs.Applied.{IsAnswered}
 use Rattle.net_control.specs.Bounds.{KeepsLimit}
@@ -30,6 +30,7 @@ use Rattle.rule_match.specs.declared.verdict.Verdict.{Verdict}
 use Rattle.word_text.specs.Texts.{mark_text}
 use Rattle.script_reader.specs.declared.line.Line.{Line}
 use Rattle.script_reader.specs.declared.line.Line.TheVariants as line
+use Rattle.script_reader.specs.declared.line.ShowLine.{ShowLine}
 use Rattle.script_reader.specs.declared.line.ShowLine.TheVariants as show
 use Rattle.script_reader.specs.declared.line.TraceLine.TheVariants as trace
 use Rattle.turn_text.specs.Texts.{answer_text, line_feed, numbered, refused_text}
@@ -74,9 +75,18 @@ pub record IsCommanded (command : Command) (n : ℕ) (s e : Standing) (turns : L
   pub once : GoesOnce s.kernel e.kernel s.controller.state (changed s.controller.state command)
   pub as_before : IsAsBefore (Ok a) s.kernel e.kernel
 
--- a report of what there is
-abbrev pub IsShown : List ℕ → ℕ → (s e : Standing) → List Turn → List ℕ → Type 0
-IsShown text n s e turns out = IsTold said.Shown text n s e turns out
+-- what there is, as a question asks for it
+abbrev pub shown_text : ShowLine → StateView → Sockets → KernelState → List ℕ
+shown_text (show.Rules family) state sockets kernel = rules_text state (rules_of kernel family)
+shown_text (show.Table number) state sockets kernel = routes_text state (routes_of number kernel.tables)
+shown_text show.Networks state sockets kernel = networks_text state
+shown_text show.Sockets state sockets kernel = sockets_text state sockets
+
+-- a question is answered by what there is, and changes nothing
+abbrev pub IsShown : ShowLine → ℕ → (s e : Standing) → List Turn → List ℕ → Type 0
+IsShown question n s e turns out =
+    IsTold said.Shown (shown_text question s.controller.state s.sockets (state_of s.kernel)) n s e turns
+    out
 
 -- where a packet with this mark goes
 abbrev pub watch_text : StateView → ℕ → Verdict → List ℕ
@@ -159,11 +169,4 @@ IsAnsweredLine (line.Trace (trace.Watch name dest)) n s e turns out =
 IsAnsweredLine (line.Trace trace.WatchOff) n s e turns out =
     IsDone n (record s { watch = None }) e turns out
 IsAnsweredLine (line.Socket call) n s e turns out = IsSocketLine call n s e turns out
-IsAnsweredLine (line.Show (show.Rules family)) n s e turns out = IsShown
-    (rules_text s.controller.state (rules_of (state_of s.kernel) family)) n s e turns out
-IsAnsweredLine (line.Show (show.Table number)) n s e turns out = IsShown
-    (routes_text s.controller.state (routes_of number (state_of s.kernel).tables)) n s e turns out
-IsAnsweredLine (line.Show show.Networks) n s e turns out = IsShown
-    (networks_text s.controller.state) n s e turns out
-IsAnsweredLine (line.Show show.Sockets) n s e turns out = IsShown
-    (sockets_text s.controller.state s.sockets) n s e turns out
+IsAnsweredLine (line.Show question) n s e turns out = IsShown question n s e turns out

@@ -1,16 +1,11 @@
 ghost use Rattle.std.specs.Prelude.{◌≡◌, [], None, OnOk, IfOk};
 ghost use Rattle.number_text.specs.Appends.{Appends};
 ghost use Rattle.turn_text.specs.Texts.{numbered};
-ghost use Rattle.kernel_model.specs.State.{rules_of, routes_of};
 ghost use Rattle.kernel_model.specs.View.{state_of};
 ghost use Rattle.kernel_model.specs.Walk.{trail_of};
 ghost use Rattle.net_control.specs.View.{IsKept};
 ghost use Rattle.policy_meaning.specs.Policy.{policy};
-ghost use Rattle.report_text.specs.NetworkTexts.{networks_text};
-ghost use Rattle.report_text.specs.RouteTexts.{routes_text};
-ghost use Rattle.report_text.specs.RuleTexts.{rules_text};
-ghost use Rattle.report_text.specs.SocketTexts.{sockets_text};
-ghost use Rattle.netd_session.specs.Answers.{passed_text, watch_text, went_text};
+ghost use Rattle.netd_session.specs.Answers.{passed_text, shown_text, watch_text, went_text};
 
 use crate::turn::Said;
 use kernel_model::Kernel;
@@ -20,11 +15,11 @@ use number_text::append_bytes;
 use packet_trace::{Trail, follow};
 use policy_meaning::table_means_policy;
 use policy_state::State;
-use prefixes::Family;
 use report_text::{
     write_networks, write_rules, write_sockets, write_table, write_trail, write_verdict,
 };
 use rule_match::{Packet, Verdict};
+use script_reader::ShowLine;
 use std::alloc::{AllocError, Global};
 use turn_text::write_line_number;
 use word_text::write_mark;
@@ -163,68 +158,40 @@ pub(crate) fn tell_verdict<K: Kernel>(
     Ok(Said::Went { mark, verdict })
 }
 
-// Tells the kernel's rules of a family.
-pub(crate) fn tell_rules<K: Kernel>(
-    number: u32,
-    family: Family,
-    controller: &Controller,
+// Appends what a question asks for.
+fn write_shown<K: Kernel>(
+    show: &ShowLine,
+    state: &State,
+    sockets: &SocketTable,
     kernel: &K,
     answer: &mut Vec<u8>,
 ) -> Result<(), AllocError>
-    requires empty { answer.old.items ≡ [] }
-    ensures text { OnOk result
-        (answer.new.items
-        ≡ numbered number
-        (rules_text controller.now.state (rules_of (state_of (K.seen kernel.now)) family))) }
+    ensures { Appends answer.old answer.new result
+        (shown_text show.now state.now sockets.now (state_of (K.seen kernel.now))) }
 {
-    write_line_number(number, answer)?;
-    write_rules(kernel, controller.state(), family, answer)
+    match *show {
+        ShowLine::Rules { family } => write_rules(kernel, state, family, answer),
+        ShowLine::Table { number } => write_table(kernel, state, number, answer),
+        ShowLine::Networks => write_networks(state, answer),
+        ShowLine::Sockets => write_sockets(state, sockets, answer),
+    }
 }
 
-// Tells the routes of a table of the kernel.
-pub(crate) fn tell_table<K: Kernel>(
+// Tells what a question asks for.
+pub(crate) fn tell_shown<K: Kernel>(
     number: u32,
-    table: u32,
-    controller: &Controller,
-    kernel: &K,
-    answer: &mut Vec<u8>,
-) -> Result<(), AllocError>
-    requires empty { answer.old.items ≡ [] }
-    ensures text { OnOk result
-        (answer.new.items
-        ≡ numbered number
-        (routes_text controller.now.state
-        (routes_of table (state_of (K.seen kernel.now)).tables))) }
-{
-    write_line_number(number, answer)?;
-    write_table(kernel, controller.state(), table, answer)
-}
-
-// Tells the networks of the state.
-pub(crate) fn tell_networks(
-    number: u32,
-    controller: &Controller,
-    answer: &mut Vec<u8>,
-) -> Result<(), AllocError>
-    requires empty { answer.old.items ≡ [] }
-    ensures text { OnOk result
-        (answer.new.items ≡ numbered number (networks_text controller.now.state)) }
-{
-    write_line_number(number, answer)?;
-    write_networks(controller.state(), answer)
-}
-
-// Tells the sockets, with the names of the links that they are bound to.
-pub(crate) fn tell_sockets(
-    number: u32,
+    show: &ShowLine,
     controller: &Controller,
     sockets: &SocketTable,
+    kernel: &K,
     answer: &mut Vec<u8>,
 ) -> Result<(), AllocError>
     requires empty { answer.old.items ≡ [] }
     ensures text { OnOk result
-        (answer.new.items ≡ numbered number (sockets_text controller.now.state sockets.now)) }
+        (answer.new.items
+        ≡ numbered number
+        (shown_text show.now controller.now.state sockets.now (state_of (K.seen kernel.now)))) }
 {
     write_line_number(number, answer)?;
-    write_sockets(controller.state(), sockets, answer)
+    write_shown(show, controller.state(), sockets, kernel, answer)
 }

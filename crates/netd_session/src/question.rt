@@ -1,21 +1,16 @@
 ghost use Rattle.std.specs.Prelude.{◌≡◌, ◌++◌, ◌∷◌, [], OnOk, OnErr};
 ghost use Rattle.script_reader.specs.declared.line.Line.TheVariants as line;
-ghost use Rattle.kernel_model.specs.State.{rules_of, routes_of};
 ghost use Rattle.kernel_model.specs.View.{state_of};
-ghost use Rattle.report_text.specs.NetworkTexts.{networks_text};
-ghost use Rattle.report_text.specs.RouteTexts.{routes_text};
-ghost use Rattle.report_text.specs.RuleTexts.{rules_text};
-ghost use Rattle.report_text.specs.SocketTexts.{sockets_text};
 ghost use Rattle.turn_text.specs.Texts.{IsCounted, answer_text, numbered};
+ghost use Rattle.netd_session.specs.Answers.{shown_text};
 ghost use Rattle.netd_session.specs.Lines.{Answers};
 ghost use Rattle.netd_session.specs.Talks.{stands};
 ghost use Rattle.netd_session.specs.Turns.{turn_of};
 
-use crate::answer::{tell_networks, tell_rules, tell_sockets, tell_table};
+use crate::answer::tell_shown;
 use crate::line::{Talk, make_room};
 use crate::turn::{Said, Turn};
 use kernel_model::Kernel;
-use prefixes::Family;
 use script_reader::ShowLine;
 use std::alloc::AllocError;
 use turn_text::{Answer, put_answer};
@@ -67,25 +62,10 @@ impl Talk {
         Ok(())
     }
 
-    fn show_sockets<K: Kernel>(&mut self, number: u32, kernel: &K) -> Result<(), AllocError>
-        requires empty { self.old.answer.items ≡ [] }
-        ensures ok { OnOk result
-            (self.new.turns.items ≡ self.old.turns.items
-            ++ turn_of number Said.Shown (stands self.old (K.seen kernel.now)) ∷ []) }
-        ensures text { OnOk result
-            (self.new.answer.items ≡ numbered number
-            (sockets_text self.old.controller.state self.old.sockets)) }
-        ensures err { OnErr result (self.new.turns.items ≡ self.old.turns.items) }
-        ensures stays { stands self.new (K.seen kernel.now) ≡ stands self.old (K.seen kernel.now) }
-    {
-        tell_sockets(number, &self.controller, &self.sockets, &mut self.answer)?;
-        self.note(number, Said::Shown, kernel)
-    }
-
-    fn show_rules<K: Kernel>(
+    fn show<K: Kernel>(
         &mut self,
         number: u32,
-        family: Family,
+        question: &ShowLine,
         kernel: &K,
     ) -> Result<(), AllocError>
         requires empty { self.old.answer.items ≡ [] }
@@ -95,48 +75,19 @@ impl Talk {
         ensures text { OnOk result
             (self.new.answer.items
             ≡ numbered number
-            (rules_text self.old.controller.state
-            (rules_of (state_of (K.seen kernel.now)) family))) }
+            (shown_text question.now self.old.controller.state self.old.sockets
+            (state_of (K.seen kernel.now)))) }
         ensures err { OnErr result (self.new.turns.items ≡ self.old.turns.items) }
         ensures stays { stands self.new (K.seen kernel.now) ≡ stands self.old (K.seen kernel.now) }
     {
-        tell_rules(number, family, &self.controller, kernel, &mut self.answer)?;
-        self.note(number, Said::Shown, kernel)
-    }
-
-    fn show_table<K: Kernel>(
-        &mut self,
-        number: u32,
-        table: u32,
-        kernel: &K,
-    ) -> Result<(), AllocError>
-        requires empty { self.old.answer.items ≡ [] }
-        ensures ok { OnOk result
-            (self.new.turns.items ≡ self.old.turns.items
-            ++ turn_of number Said.Shown (stands self.old (K.seen kernel.now)) ∷ []) }
-        ensures text { OnOk result
-            (self.new.answer.items
-            ≡ numbered number
-            (routes_text self.old.controller.state
-            (routes_of table (state_of (K.seen kernel.now)).tables))) }
-        ensures err { OnErr result (self.new.turns.items ≡ self.old.turns.items) }
-        ensures stays { stands self.new (K.seen kernel.now) ≡ stands self.old (K.seen kernel.now) }
-    {
-        tell_table(number, table, &self.controller, kernel, &mut self.answer)?;
-        self.note(number, Said::Shown, kernel)
-    }
-
-    fn show_networks<K: Kernel>(&mut self, number: u32, kernel: &K) -> Result<(), AllocError>
-        requires empty { self.old.answer.items ≡ [] }
-        ensures ok { OnOk result
-            (self.new.turns.items ≡ self.old.turns.items
-            ++ turn_of number Said.Shown (stands self.old (K.seen kernel.now)) ∷ []) }
-        ensures text { OnOk result
-            (self.new.answer.items ≡ numbered number (networks_text self.old.controller.state)) }
-        ensures err { OnErr result (self.new.turns.items ≡ self.old.turns.items) }
-        ensures stays { stands self.new (K.seen kernel.now) ≡ stands self.old (K.seen kernel.now) }
-    {
-        tell_networks(number, &self.controller, &mut self.answer)?;
+        tell_shown(
+            number,
+            question,
+            &self.controller,
+            &self.sockets,
+            kernel,
+            &mut self.answer,
+        )?;
         self.note(number, Said::Shown, kernel)
     }
 
@@ -154,11 +105,6 @@ impl Talk {
             self.new.turns.items self.new.answer.items }
         ensures stays { stands self.new (K.seen kernel.now) ≡ stands self.old (K.seen kernel.now) }
     {
-        match *show {
-            ShowLine::Rules { family } => self.show_rules(number, family, kernel),
-            ShowLine::Table { number: table } => self.show_table(number, table, kernel),
-            ShowLine::Networks => self.show_networks(number, kernel),
-            ShowLine::Sockets => self.show_sockets(number, kernel),
-        }
+        self.show(number, show, kernel)
     }
 }

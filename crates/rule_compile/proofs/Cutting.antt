@@ -1,5 +1,5 @@
 -- A list cut in two: what stays of it, and what a change touches. What stays in two lists cancels in their difference.
-use Rattle.std.proofs.Common.{◌≡◌, ℕ, ◌≤◌, ◌||◌, Bool, true, false, cond, not, List, [], ◌∷◌, ◌++◌, refl, sym, ◌∙◌, ap, subst, inl, inr, arith, filter, map, leb}
+use Rattle.std.proofs.Common.{◌≡◌, ◌||◌, Bool, true, false, cond, not, List, [], ◌∷◌, ◌++◌, refl, sym, ◌∙◌, ap, subst, inl, inr, arith, filter, map, leb}
 use Rattle.std.specs.Prelude.{flat_map, if◌then◌else◌}
 use Rattle.std.proofs.lemmas.Bool.{cases_Bool, false≢true, false_from_ne_true, leb-true, le-leb}
 use Rattle.rule_law.specs.Rules.{Kind, has, HasEachOnce, NoneBelow, Rises}

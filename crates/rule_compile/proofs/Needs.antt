@@ -1,10 +1,10 @@
 -- A network's permission is replaced: the rules that ask for it are replaced, all others stay.
-use Rattle.std.proofs.Common.{◌≡◌, ◌∙◌, ◌==◌, ℕ, ◌≤◌, Bool, true, false, Option, Some, None, List, [], ◌∷◌, ◌++◌, refl, sym, ap, ap₂, subst, inl, inr, map, arith}
+use Rattle.std.proofs.Common.{◌≡◌, ◌∙◌, ◌==◌, ℕ, Bool, true, false, Option, List, [], ◌∷◌, ◌++◌, refl, sym, ap, ap₂, subst, inl, inr, map}
 use Rattle.std.specs.Prelude.{flat_map, if◌then◌else◌}
 use Rattle.std.proofs.lemmas.Bool.{cases_Bool, false≢true, false_from_ne_true, eqb-true, eq-eqb}
 use Rattle.fwmark.specs.Permission.{bits_of}
 use Rattle.fwmark.specs.declared.permission.Permission.{Permission}
-use Rattle.fwmark.specs.Selection.{Selection, mask_of, value_of, net_mask, flag_mask}
+use Rattle.fwmark.specs.Selection.{Selection, mask_of, value_of}
 use Rattle.rule_law.specs.Rules.{has}
 use Rattle.rule_law.specs.Parts.{TurnsInto}
 use Rattle.rule_law.proofs.Turning.{TurnsInto-same, TurnsInto-replaced}
@@ -29,7 +29,6 @@ use Rattle.rule_compile.proofs.Permissions.{same_bits, mask-bits, own-needed}
 use Rattle.policy_state.proofs.Owners.{Has, Owners, OfMap, OfFlat, of_map, of_flat, of_rules}
 use Rattle.policy_state.proofs.RowItems.{part, map-flat}
 use Rattle.rule_compile.proofs.Comes.{touched-turn}
-use Rattle.fwmark.specs.declared.permission.Permission.TheVariants as needs
 
 abbrev pub with_needs : Permission → Item → Item
 with_needs q i = record i { needs = q }

@@ -1,8 +1,8 @@
 -- No rule both goes and comes: a permission shows in a rule's mask, and the default network in the table to which a rule leads.
-use Rattle.std.proofs.Common.{◌≡◌, ◌∙◌, ◌==◌, ℕ, Bool, true, false, not, Option, Some, None, List, [], ◌∷◌, ◌++◌, refl, sym, ap, subst, inl, inr, map, arith}
-use Rattle.std.specs.Prelude.{◌&&◌, ◌⊎◌, flat_map, if◌then◌else◌}
+use Rattle.std.proofs.Common.{◌≡◌, ◌∙◌, ◌==◌, ℕ, Bool, true, false, not, Option, Some, None, List, refl, sym, ap, subst, inl, inr, map}
+use Rattle.std.specs.Prelude.{◌&&◌, flat_map, if◌then◌else◌}
 use Rattle.std.specs.List.{list_all}
-use Rattle.std.proofs.lemmas.Bool.{cases_Bool, false≢true, false_from_ne_true, and_parts, not-true, eqb-true, eq-eqb}
+use Rattle.std.proofs.lemmas.Bool.{false≢true, false_from_ne_true, and_parts, not-true, eqb-true, eq-eqb}
 use Rattle.fwmark.specs.Permission.{bits_of}
 use Rattle.fwmark.specs.Selection.{mask_of}
 use Rattle.fwmark.specs.declared.permission.Permission.{Permission}
@@ -15,10 +15,9 @@ use Rattle.rule_kinds.specs.Kind.{rule_kind}
 use Rattle.rule_law.specs.Rules.{has}
 use Rattle.rule_law.specs.Plans.{beyond}
 use Rattle.rule_law.proofs.Membership.{filter-all}
-use Rattle.rule_match.specs.declared.rule.Action.TheVariants as action
 use Rattle.rule_match.specs.declared.rule.Rule.{Rule}
 use Rattle.policy_state.specs.Good.{IsWellFormed}
-use Rattle.policy_state.specs.Rows.{picks, items_at, items_in, net_item, link_item, user_item, split_item, needs_of, links_of, default_among, is_default}
+use Rattle.policy_state.specs.Rows.{picks, items_at, items_in, link_item, user_item, split_item, default_among, is_default}
 use Rattle.policy_state.specs.declared.row.Item.{Item}
 use Rattle.policy_state.specs.declared.row.Row.{Row}
 use Rattle.policy_state.specs.declared.row.NetworkSet.{NetworkSet}
@@ -32,8 +31,7 @@ use Rattle.policy_state.specs.declared.row.OnePer.TheVariants.{Once as OncePer, 
 use Rattle.policy_state.specs.declared.row.Selector.TheVariants.{Unstated, OfItem, OfRow}
 use Rattle.policy_state.specs.declared.row.Target.TheVariants.{ToLink, ToLocal, Prohibits, Refuses}
 use Rattle.policy_state.specs.Step.{asking_for, with_permission}
-use Rattle.policy_state.specs.Table.{rows, rule_of, needed, marks_of, leads_to, link_table}
-use Rattle.uid_ranges.specs.declared.ranked.Ranked.{Ranked}
+use Rattle.policy_state.specs.Table.{rows, rule_of, needed, marks_of, leads_to}
 use Rattle.policy_state.specs.View.{StateView}
 use Rattle.policy_state.proofs.AlikeRules.{all-has}
 use Rattle.policy_state.proofs.GoodStates.{is-good}
@@ -45,7 +43,7 @@ use Rattle.policy_state.specs.declared.change.Change.{Change}
 use Rattle.policy_state.specs.declared.change.Change.TheVariants as change
 use Rattle.networks.specs.Lists.{find_id}
 use Rattle.rule_compile.proofs.TouchedStates.{reached, unreached}
-use Rattle.rule_compile.specs.Touched.{Part, no_part, part_items, part_rules, splitting, items_of, reaches, is_home, asking_part, asks_other, default_part, same_default, go_part, come_part}
+use Rattle.rule_compile.specs.Touched.{Part, no_part, part_items, part_rules, items_of, is_home, asking_part, asks_other, default_part, same_default, go_part, come_part}
 use Rattle.rule_compile.proofs.Permissions.{mask-bits, own-needed}
 
 -- a rule of a part, with its row and its item

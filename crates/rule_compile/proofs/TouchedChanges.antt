@@ -1,7 +1,6 @@
 -- Any change: the part that it touches is what goes of a state and what comes, and all else stays.
-use Rattle.std.proofs.Common.{◌≡◌, ◌∙◌, ◌==◌, ℕ, Bool, true, false, cond, not, Option, Some, None, List, [], ◌∷◌, ◌++◌, refl, sym, ap, ap₂, subst, inl, inr, map, filter}
-use Rattle.std.specs.Prelude.{◌&&◌, find, flat_map, if◌then◌else◌}
-use Rattle.std.specs.List.{list_any}
+use Rattle.std.proofs.Common.{◌≡◌, ◌∙◌, ◌==◌, ℕ, Bool, true, false, not, Option, Some, None, List, [], ◌∷◌, ◌++◌, refl, sym, ap, subst, inl, inr, map, filter}
+use Rattle.std.specs.Prelude.{◌&&◌, flat_map, if◌then◌else◌}
 use Rattle.std.specs.Option.{option_map}
 use Rattle.std.proofs.lemmas.Bool.{cases_Bool, false≢true, false_from_ne_true, and_parts, eqb-true, eq-eqb}
 use Rattle.std.proofs.lemmas.Option.{none-some, same_Some}
@@ -15,11 +14,8 @@ use Rattle.networks.specs.declared.network.Network.{Network}
 use Rattle.policy_state.specs.Change.{turned, Fits}
 use Rattle.policy_state.specs.Good.{IsWellFormed, is_default_there}
 use Rattle.policy_state.specs.Rows.{items}
-use Rattle.policy_state.specs.declared.row.Item.{Item}
-use Rattle.policy_state.specs.declared.row.NetworkSet.{NetworkSet}
-use Rattle.policy_state.specs.declared.row.NetworkPart.{NetworkPart}
 use Rattle.policy_state.specs.declared.row.OnePer.{OnePer}
-use Rattle.policy_state.specs.declared.row.NetworkPart.TheVariants.{Whole, EachInterface, EachRange, EachDefault}
+use Rattle.policy_state.specs.declared.row.NetworkPart.TheVariants.{EachDefault}
 use Rattle.policy_state.specs.declared.row.NetworkSet.TheVariants.{OfVirtual}
 use Rattle.policy_state.specs.declared.row.OnePer.TheVariants.{Once, EachLockdown, EachPair, EachOf}
 use Rattle.policy_state.specs.Step.{with_net, with_link, without_link, with_permission, with_ranges, without_ranges, with_route, without_route, without_net, without_interface, is_in, is_pair, is_protectable}
@@ -29,14 +25,13 @@ use Rattle.policy_state.specs.declared.change.Change.{Change}
 use Rattle.policy_state.specs.declared.change.Change.TheVariants as change
 use Rattle.policy_state.proofs.Members.{find-none, find-passes}
 use Rattle.policy_state.proofs.Owners.{Has, Passing, of_any, find-has, link-has}
-use Rattle.policy_state.proofs.RowTests.{is_split}
 use Rattle.uid_ranges.specs.Ranges.{has}
 use Rattle.uid_ranges.specs.Ranks.{all_at}
 use Rattle.uid_ranges.specs.declared.range.UidRange.{UidRange}
-use Rattle.rule_compile.specs.Touched.{Part, no_part, part_items, is_home, of_net, asks_other, asking_part, gone_part, default_part, same_default, link_part, ranges_part, go_part, come_part}
-use Rattle.rule_compile.proofs.Cutting.{Cut, all-stay, cut-filter}
-use Rattle.rule_compile.proofs.TouchedTables.{IsCut, is_plain}
-use Rattle.rule_compile.proofs.TouchedNetworks.{IsOne, found-one, change_at, cut-behind, split_at}
+use Rattle.rule_compile.specs.Touched.{Part, no_part, part_items, is_home, asks_other, asking_part, gone_part, default_part, same_default, link_part, ranges_part, go_part, come_part}
+use Rattle.rule_compile.proofs.Cutting.{all-stay, cut-filter}
+use Rattle.rule_compile.proofs.TouchedTables.{IsCut}
+use Rattle.rule_compile.proofs.TouchedNetworks.{found-one, change_at, cut-behind, split_at}
 use Rattle.rule_compile.proofs.TouchedItems.{own, own-same, with_links}
 use Rattle.rule_compile.proofs.TouchedKinds.{net-cut, split-stays, split-turns, split-old, nothing-of, cut-none, same-cut, same-items, link-comes, link-goes}
 use Rattle.rule_compile.proofs.TouchedUsers.{ranges-come, ranges-go, permission-turns, permission-stays}

@@ -1,5 +1,5 @@
 -- The items of one network, cut where it gets or loses an interface or ranges.
-use Rattle.std.proofs.Common.{◌≡◌, ◌∙◌, ◌==◌, ℕ, Bool, true, false, cond, not, Option, Some, None, List, [], ◌∷◌, ◌++◌, refl, sym, ap, subst, map, filter}
+use Rattle.std.proofs.Common.{◌≡◌, ◌∙◌, ◌==◌, ℕ, Bool, false, Option, Some, None, List, [], ◌∷◌, refl, sym, ap, subst, map}
 use Rattle.std.specs.Prelude.{◌&&◌, flat_map, if◌then◌else◌}
 use Rattle.std.proofs.lemmas.Bool.{false≢true}
 use Rattle.fwmark.specs.declared.permission.Permission.{Permission}
@@ -18,9 +18,9 @@ use Rattle.policy_state.specs.declared.row.OnePer.TheVariants.{EachOf}
 use Rattle.uid_ranges.specs.declared.ranked.Ranked.{Ranked}
 use Rattle.policy_state.specs.View.{StateView}
 use Rattle.policy_state.proofs.RowTests.{is_split}
-use Rattle.rule_compile.specs.Touched.{Part, reaches, part_items, link_part, ranges_part, kind_having, with_link_alone, with_ranges_alone}
+use Rattle.rule_compile.specs.Touched.{reaches, part_items, link_part, ranges_part, kind_having, with_ranges_alone}
 use Rattle.rule_compile.specs.declared.part.Extent.TheVariants as extent
-use Rattle.rule_compile.proofs.Cutting.{Cut, Ends, Stays, Turns, all-stay, all-turn, cut-map, cut-over, cut-test, cut-each}
+use Rattle.rule_compile.proofs.Cutting.{Cut, Ends, all-stay, cut-map, cut-over, cut-test, cut-each}
 
 -- what a network gives a row that isn't split
 abbrev pub own : NetworkSet → NetworkPart → Option ℕ → Network → List Item

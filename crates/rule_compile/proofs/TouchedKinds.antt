@@ -1,18 +1,13 @@
 -- For each kind of change, what goes of what there are rules for, and what comes: all else stays.
-use Rattle.std.proofs.Common.{◌≡◌, ◌∙◌, ◌==◌, ℕ, Bool, true, false, cond, not, Option, Some, None, List, [], ◌∷◌, ◌++◌, refl, sym, ap, ap₂, subst, inl, inr, map, filter}
-use Rattle.std.specs.Prelude.{◌&&◌, find, flat_map, if◌then◌else◌}
-use Rattle.std.proofs.lemmas.Bool.{cases_Bool, false≢true, false_from_ne_true, and_parts, eqb-true, eq-eqb}
-use Rattle.std.proofs.lemmas.Grind.{flat_map-append}
-use Rattle.std.proofs.lemmas.List.{append-nil}
-use Rattle.fwmark.specs.declared.permission.Permission.{Permission}
-use Rattle.networks.specs.Kinds.{class_of, permission_of, ranges_of}
+use Rattle.std.proofs.Common.{◌≡◌, ◌∙◌, ◌==◌, ℕ, Bool, true, false, not, Some, None, List, [], ◌∷◌, ◌++◌, refl, sym, ap, ap₂, subst, inl, inr, map, filter}
+use Rattle.std.specs.Prelude.{flat_map, if◌then◌else◌}
+use Rattle.std.proofs.lemmas.Bool.{false≢true, false_from_ne_true, eqb-true, eq-eqb}
+use Rattle.networks.specs.Kinds.{class_of, permission_of}
 use Rattle.networks.specs.Lists.{find_id}
 use Rattle.networks.specs.Network.{has_link}
-use Rattle.networks.specs.declared.kind.Kind.{Kind}
-use Rattle.networks.specs.declared.kind.Kind.TheVariants as kind
 use Rattle.networks.specs.declared.network.Network.{Network}
 use Rattle.policy_state.specs.Good.{IsWellFormed}
-use Rattle.policy_state.specs.Rows.{is_default, picks, default_among, default_of, items, items_at, nothing, range_item, pair_item}
+use Rattle.policy_state.specs.Rows.{default_of, items, nothing, range_item, pair_item}
 use Rattle.policy_state.specs.declared.row.Item.{Item}
 use Rattle.policy_state.specs.declared.row.NetworkSet.{NetworkSet}
 use Rattle.policy_state.specs.declared.row.NetworkPart.{NetworkPart}
@@ -20,21 +15,17 @@ use Rattle.policy_state.specs.declared.row.OnePer.{OnePer}
 use Rattle.policy_state.specs.declared.row.NetworkSet.TheVariants.{OfLocal, OfPhysical, OfFree, OfDefault, OfVirtual, OfSecure, OfBypass}
 use Rattle.policy_state.specs.declared.row.NetworkPart.TheVariants.{Whole, EachInterface, EachRange, EachDefault}
 use Rattle.policy_state.specs.declared.row.OnePer.TheVariants.{Once as OncePer, EachLockdown, EachPair, EachOf}
-use Rattle.policy_state.specs.Step.{asking_for, with_net, with_link, without_link, without_interface, with_permission, with_ranges, without_ranges, kind_with, kind_without, is_in}
-use Rattle.uid_ranges.specs.declared.ranked.Ranked.{Ranked}
+use Rattle.policy_state.specs.Step.{with_net, with_link, without_link}
 use Rattle.policy_state.specs.declared.tether.TetherPair.{TetherPair}
 use Rattle.policy_state.specs.View.{StateView}
-use Rattle.policy_state.proofs.GoodStates.{are-once, same-ids}
+use Rattle.policy_state.proofs.GoodStates.{are-once}
 use Rattle.policy_state.proofs.Owners.{Has, Once}
 use Rattle.policy_state.proofs.RowTests.{is_split}
-use Rattle.uid_ranges.specs.Ranges.{has}
-use Rattle.uid_ranges.specs.Ranks.{all_at, ranked_without}
-use Rattle.uid_ranges.specs.declared.range.UidRange.{UidRange}
-use Rattle.rule_compile.specs.Touched.{Part, no_part, part_items, splitting, is_home, link_part, ranges_part, asking_part, kind_having, with_link_alone, with_ranges_alone}
-use Rattle.rule_compile.proofs.Cutting.{Cut, Ends, all-stay, all-turn, cut-map, cut-filter}
+use Rattle.rule_compile.specs.Touched.{Part, no_part, part_items, is_home, link_part, with_link_alone}
+use Rattle.rule_compile.proofs.Cutting.{Cut, all-stay, cut-map, cut-filter}
 use Rattle.rule_compile.proofs.TouchedTables.{IsCut, is_plain}
 use Rattle.rule_compile.proofs.TouchedNetworks.{IsOne, found-one, but, change_at, one-cut, changed-cut, home-stays, home-changed, home-found, split_at, split-changed, split-none, split-links, cut-behind}
-use Rattle.rule_compile.proofs.TouchedItems.{own, own-links, own-ranges, with_links, having-class}
+use Rattle.rule_compile.proofs.TouchedItems.{own, own-links, with_links}
 
 -- A change of one network, perhaps with pairs that go.
 module _ (s : StateView) (formed : IsWellFormed s) (net : ℕ) (n : Network) (at : find_id net s.networks ≡ Some n) (change : Network → Network) where

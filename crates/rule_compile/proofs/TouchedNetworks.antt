@@ -1,22 +1,19 @@
 -- What there are rules for in the networks of a state, cut where one network changes.
-use Rattle.std.proofs.Common.{◌≡◌, ◌∙◌, ◌==◌, ℕ, Bool, true, false, cond, not, Option, Some, None, List, [], ◌∷◌, ◌++◌, refl, sym, ap, ap₂, subst, inl, inr, map, filter}
-use Rattle.std.specs.Prelude.{◌&&◌, find, flat_map, if◌then◌else◌}
+use Rattle.std.proofs.Common.{◌≡◌, ◌∙◌, ◌==◌, ℕ, Bool, true, false, not, Option, Some, None, List, [], ◌∷◌, ◌++◌, refl, sym, ap, ap₂, subst, inl, inr, map, filter}
+use Rattle.std.specs.Prelude.{◌&&◌, flat_map, if◌then◌else◌}
 use Rattle.std.specs.Option.{option_map}
-use Rattle.std.proofs.lemmas.Bool.{cases_Bool, false≢true, false_from_ne_true, and_parts, eqb-true, eq-eqb}
+use Rattle.std.proofs.lemmas.Bool.{cases_Bool, false≢true, false_from_ne_true, and_parts, eqb-true}
 use Rattle.fwmark.specs.declared.permission.Permission.{Permission}
-use Rattle.networks.specs.Kinds.{class_of, permission_of, ranges_of}
+use Rattle.networks.specs.Kinds.{class_of, permission_of}
 use Rattle.networks.specs.Lists.{find_id}
 use Rattle.networks.specs.declared.network.Network.{Network}
 use Rattle.policy_state.specs.Good.{IsWellFormed}
-use Rattle.policy_state.specs.Rows.{is_default, picks, default_among, default_of, items, items_at, items_in, links_of, needs_of, split_item}
+use Rattle.policy_state.specs.Rows.{is_default, picks, default_among, default_of, items, items_at, links_of, needs_of, split_item}
 use Rattle.policy_state.specs.declared.row.Item.{Item}
-use Rattle.policy_state.specs.declared.row.NetworkSet.{NetworkSet}
-use Rattle.policy_state.specs.declared.row.NetworkPart.{NetworkPart}
 use Rattle.policy_state.specs.declared.row.NetworkSet.TheVariants.{OfDefault, OfVirtual}
 use Rattle.policy_state.specs.declared.row.NetworkPart.TheVariants.{EachDefault}
-use Rattle.policy_state.specs.declared.row.OnePer.TheVariants.{EachOf}
 use Rattle.policy_state.specs.View.{StateView}
-use Rattle.policy_state.proofs.GoodStates.{are-once, same-ids}
+use Rattle.policy_state.proofs.GoodStates.{same-ids}
 use Rattle.policy_state.proofs.Members.{find-passes}
 use Rattle.policy_state.proofs.Owners.{Has, Once, find-has, found}
 use Rattle.policy_state.proofs.RowItems.{flat-map}

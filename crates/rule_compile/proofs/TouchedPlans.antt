@@ -1,9 +1,7 @@
 -- What is asked by the part that a change touches is what is asked by both whole tables.
-use Rattle.std.proofs.Common.{◌≡◌, ◌∙◌, ◌==◌, ℕ, Bool, true, false, Option, Some, None, List, [], ◌∷◌, ◌++◌, reverse, refl, sym, ap, ap₂, subst, inl, inr, filter, map}
-use Rattle.std.specs.Prelude.{flat_map, if◌then◌else◌}
-use Rattle.std.specs.List.{list_any}
-use Rattle.std.proofs.lemmas.Bool.{cases_Bool, false≢true, false_from_ne_true, eqb-true}
-use Rattle.kernel_model.specs.PlanView.{PlanView}
+use Rattle.std.proofs.Common.{◌≡◌, ◌∙◌, ◌==◌, ℕ, Bool, true, false, Option, Some, None, List, [], ◌∷◌, ◌++◌, reverse, refl, sym, ap, ap₂, subst, inl, inr, map}
+use Rattle.std.specs.Prelude.{if◌then◌else◌}
+use Rattle.std.proofs.lemmas.Bool.{false≢true, false_from_ne_true}
 use Rattle.kernel_model.specs.Switch.{requests_of, twins, additions, deletions}
 use Rattle.kernel_model.specs.declared.request.Request.{Request}
 use Rattle.networks.specs.Kinds.{is_local}
@@ -28,7 +26,7 @@ use Rattle.prefixes.specs.declared.prefix.Prefix.{Prefix}
 use Rattle.prefixes.specs.declared.route.Route.{Route}
 use Rattle.rule_kinds.specs.Kind.{rule_kind}
 use Rattle.rule_compile.specs.Asked.{asked, asked_adds, asked_deletes, of_interface, keyed_in, leaving_by, shortest_first, routes_come, routes_gone, routes_first}
-use Rattle.rule_compile.specs.Planned.{routes_of_net, change_comes, change_goes, change_goes_first, rules_come, rules_go, planned}
+use Rattle.rule_compile.specs.Planned.{change_comes, change_goes, change_goes_first, rules_come, rules_go, planned}
 use Rattle.rule_compile.specs.Touched.{go_part, come_part}
 use Rattle.rule_compile.proofs.TouchedApart.{changes-apart, apart-beyond, apart-turned}
 use Rattle.rule_compile.proofs.TouchedChanges.{touched-cut}

@@ -1,5 +1,5 @@
 -- The rules of a part, by the part without routes and by the network that is found.
-use Rattle.std.proofs.Common.{◌≡◌, ◌∙◌, ℕ, Some, None, List, [], refl, sym, ap}
+use Rattle.std.proofs.Common.{◌≡◌, ◌∙◌, ℕ, Some, None, List, [], sym, ap}
 use Rattle.networks.specs.Lists.{find_id}
 use Rattle.networks.specs.declared.network.Network.{Network}
 use Rattle.policy_state.specs.View.{StateView}

@@ -1,7 +1,6 @@
 -- Networks that come or go, another default network, lockdown ranges and pairs: what turns, and that all else stays.
-use Rattle.std.proofs.Common.{◌≡◌, ◌∙◌, ◌==◌, ℕ, Bool, true, false, cond, not, Option, Some, None, List, [], ◌∷◌, ◌++◌, refl, sym, ap, ap₂, subst, inl, inr, map, filter}
-use Rattle.std.specs.Prelude.{◌&&◌, find, flat_map, if◌then◌else◌}
-use Rattle.std.specs.List.{list_any}
+use Rattle.std.proofs.Common.{◌≡◌, ◌∙◌, ◌==◌, ℕ, Bool, true, false, not, Option, Some, None, List, [], ◌∷◌, ◌++◌, refl, sym, ap, ap₂, subst, inl, inr, map, filter}
+use Rattle.std.specs.Prelude.{◌&&◌, flat_map, if◌then◌else◌}
 use Rattle.std.proofs.lemmas.Bool.{cases_Bool, false≢true, false_from_ne_true, and_parts, eqb-true, eq-eqb}
 use Rattle.std.proofs.lemmas.Grind.{flat_map-append}
 use Rattle.std.proofs.lemmas.List.{append-nil}
@@ -22,16 +21,15 @@ use Rattle.policy_state.specs.declared.row.OnePer.{OnePer}
 use Rattle.policy_state.specs.declared.row.NetworkSet.TheVariants.{OfLocal, OfPhysical, OfFree, OfDefault, OfVirtual, OfSecure, OfBypass}
 use Rattle.policy_state.specs.declared.row.NetworkPart.TheVariants.{Whole, EachInterface, EachRange, EachDefault}
 use Rattle.policy_state.specs.declared.row.OnePer.TheVariants.{Once as OncePer, EachLockdown, EachPair, EachOf}
-use Rattle.policy_state.specs.Step.{with_new_net, without_net, is_pair, is_in}
+use Rattle.policy_state.specs.Step.{with_new_net, without_net, is_in}
 use Rattle.policy_state.specs.declared.tether.TetherPair.{TetherPair}
 use Rattle.policy_state.specs.View.{StateView}
 use Rattle.policy_state.proofs.GoodStates.{are-once}
 use Rattle.policy_state.proofs.Members.{find-none}
 use Rattle.policy_state.proofs.Owners.{Has, Once, Passing, of_any}
 use Rattle.policy_state.proofs.RowTests.{is_split, is_of_default}
-use Rattle.uid_ranges.specs.Ranges.{has, without}
 use Rattle.uid_ranges.specs.declared.range.UidRange.{UidRange}
-use Rattle.rule_compile.specs.Touched.{Part, no_part, part_items, is_home, items_of, reaches, new_part, gone_part, default_part, same_default}
+use Rattle.rule_compile.specs.Touched.{no_part, part_items, is_home, items_of, reaches, new_part, gone_part, default_part, same_default}
 use Rattle.rule_compile.specs.declared.part.Extent.TheVariants as extent
 use Rattle.rule_compile.proofs.Cutting.{Cut, all-stay, all-turn, cut-map, cut-filter}
 use Rattle.rule_compile.proofs.TouchedTables.{IsCut, is_plain}

@@ -1,5 +1,5 @@
 -- Where a change touches a part of a state, the tables before and after differ by that part's rules.
-use Rattle.std.proofs.Common.{◌≡◌, ◌∙◌, Bool, true, false, List, [], ◌∷◌, refl, sym, ap, ap₂, map}
+use Rattle.std.proofs.Common.{◌≡◌, ◌∙◌, Bool, true, false, List, refl, ap, ap₂, map}
 use Rattle.std.specs.Prelude.{flat_map}
 use Rattle.std.specs.List.{list_all}
 use Rattle.rule_kinds.specs.Kind.{rule_kind}
@@ -10,8 +10,6 @@ use Rattle.policy_state.specs.Good.{IsWellFormed}
 use Rattle.policy_state.specs.Rows.{items}
 use Rattle.policy_state.specs.declared.row.Item.{Item}
 use Rattle.policy_state.specs.declared.row.Row.{Row}
-use Rattle.policy_state.specs.declared.row.NetworkSet.{NetworkSet}
-use Rattle.policy_state.specs.declared.row.NetworkPart.{NetworkPart}
 use Rattle.policy_state.specs.declared.row.OnePer.{OnePer}
 use Rattle.policy_state.specs.declared.row.NetworkSet.TheVariants.{OfLocal, OfPhysical, OfFree, OfDefault, OfVirtual, OfSecure, OfBypass}
 use Rattle.policy_state.specs.declared.row.NetworkPart.TheVariants.{Whole, EachInterface, EachRange, EachDefault}
@@ -21,7 +19,7 @@ use Rattle.policy_state.specs.View.{StateView}
 use Rattle.policy_state.proofs.AlikeRules.{all-has}
 use Rattle.policy_state.proofs.EachOnce.{rows-once}
 use Rattle.policy_state.proofs.GoodStates.{is-good, are-once}
-use Rattle.policy_state.proofs.Owners.{Has, owners_of}
+use Rattle.policy_state.proofs.Owners.{owners_of}
 use Rattle.policy_state.proofs.RowItems.{once-has}
 use Rattle.policy_state.proofs.RowTests.{rows_told, each_single_fit}
 use Rattle.policy_state.proofs.Tables.{table-is}

@@ -1,7 +1,7 @@
 -- Ranges come to a network or go, or its permission is another.
-use Rattle.std.proofs.Common.{◌≡◌, ◌∙◌, ◌==◌, ℕ, Bool, true, false, cond, not, Option, Some, None, List, [], ◌∷◌, ◌++◌, refl, sym, ap, ap₂, subst, inl, inr, map, filter, arith}
-use Rattle.std.specs.Prelude.{◌&&◌, find, flat_map, if◌then◌else◌}
-use Rattle.std.proofs.lemmas.Bool.{cases_Bool, false≢true, eqb-true, not-true}
+use Rattle.std.proofs.Common.{◌≡◌, ◌∙◌, ◌==◌, ℕ, Bool, true, false, not, Some, None, List, [], ◌∷◌, ◌++◌, refl, sym, ap, ap₂, subst, inl, inr, map, filter}
+use Rattle.std.specs.Prelude.{◌&&◌, flat_map, if◌then◌else◌}
+use Rattle.std.proofs.lemmas.Bool.{cases_Bool, false≢true, eqb-true}
 use Rattle.fwmark.specs.Permission.{bits_of}
 use Rattle.fwmark.specs.declared.permission.Permission.{Permission}
 use Rattle.networks.specs.Kinds.{class_of, permission_of, ranges_of, is_physical}
@@ -14,7 +14,6 @@ use Rattle.policy_state.specs.Rows.{items, split_item}
 use Rattle.policy_state.specs.declared.row.Item.{Item}
 use Rattle.policy_state.specs.declared.row.NetworkSet.{NetworkSet}
 use Rattle.policy_state.specs.declared.row.NetworkPart.{NetworkPart}
-use Rattle.policy_state.specs.declared.row.OnePer.{OnePer}
 use Rattle.policy_state.specs.declared.row.NetworkSet.TheVariants.{OfVirtual}
 use Rattle.policy_state.specs.declared.row.NetworkPart.TheVariants.{Whole, EachInterface, EachRange, EachDefault}
 use Rattle.policy_state.specs.declared.row.OnePer.TheVariants.{EachOf}
@@ -30,7 +29,7 @@ use Rattle.rule_compile.specs.Touched.{Part, no_part, part_items, is_home, range
 use Rattle.rule_compile.proofs.Cutting.{Cut, all-stay, all-turn, cut-filter}
 use Rattle.rule_compile.proofs.Permissions.{same_bits}
 use Rattle.rule_compile.proofs.TouchedTables.{IsCut}
-use Rattle.rule_compile.proofs.TouchedNetworks.{IsOne, found-one, change_at, split_at, split-none, cut-behind}
+use Rattle.rule_compile.proofs.TouchedNetworks.{found-one, change_at, split_at, split-none, cut-behind}
 use Rattle.rule_compile.proofs.TouchedItems.{own, own-ranges, having-class, having-permission}
 use Rattle.rule_compile.proofs.TouchedKinds.{net-cut, split-stays, split-turns, split-old, nothing-of, cut-none, same-cut}
 

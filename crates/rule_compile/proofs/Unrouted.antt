@@ -1,5 +1,5 @@
 -- No row asks for a network's routes.
-use Rattle.std.proofs.Common.{◌≡◌, ◌∙◌, ℕ, Bool, true, false, Option, Some, None, List, [], ◌∷◌, ◌++◌, refl, ap, map, sym}
+use Rattle.std.proofs.Common.{◌≡◌, ◌∙◌, ℕ, Bool, true, false, Option, Some, None, List, [], ◌++◌, refl, ap, map}
 use Rattle.std.specs.Prelude.{flat_map, if◌then◌else◌}
 use Rattle.std.specs.Option.{option_map}
 use Rattle.networks.specs.declared.network.Network.{Network}
@@ -14,7 +14,7 @@ use Rattle.policy_state.specs.declared.row.OnePer.TheVariants.{Once, EachLockdow
 use Rattle.policy_state.specs.declared.row.Row.{Row}
 use Rattle.rule_compile.specs.PartOf.{unrouted_part}
 use Rattle.rule_compile.specs.Shapes.{unrouted}
-use Rattle.rule_compile.specs.Touched.{Part, reaches, items_of, part_items, part_rules, splitting, listed}
+use Rattle.rule_compile.specs.Touched.{Part, reaches, items_of, part_items, part_rules, listed}
 use Rattle.rule_compile.proofs.TouchedItems.{picks-linked}
 use Rattle.rule_compile.proofs.TouchedNetworks.{flat-alike, flat-none}
 
@@ -24,9 +24,16 @@ items-unrouted pick EachInterface d home n = ap (λ b. if b then items_in EachIn
 items-unrouted pick EachRange d home n = ap (λ b. if b then items_in EachRange home n else []) (picks-linked pick d n n.interfaces [])
 items-unrouted pick EachDefault d home n = ap (λ b. if b then items_in EachDefault home n else []) (picks-linked pick d n n.interfaces [])
 
-home-unrouted : (pick : NetworkSet) (d : Option ℕ) (home : Option Network) (n : Network) → items_at pick EachDefault d (option_map unrouted home) n ≡ items_at pick EachDefault d home n
-home-unrouted pick d None n = refl
-home-unrouted pick d (Some m) n = refl
+home-unrouted : (pick : NetworkSet) (spread : NetworkPart) (d : Option ℕ) (home : Option Network) (n : Network) → items_at pick spread d (option_map unrouted home) n ≡ items_at pick spread d home n
+home-unrouted pick spread d None n = refl
+home-unrouted pick Whole d (Some m) n = refl
+home-unrouted pick EachInterface d (Some m) n = refl
+home-unrouted pick EachRange d (Some m) n = refl
+home-unrouted pick EachDefault d (Some m) n = refl
+
+pub networks-unrouted : (pick : NetworkSet) (spread : NetworkPart) (d : Option ℕ) (home : Option Network) (ns : List Network)
+    → flat_map (items_at pick spread d (option_map unrouted home)) ns ≡ flat_map (items_at pick spread d home) ns
+networks-unrouted pick spread d home ns = flat-alike (items_at pick spread d (option_map unrouted home)) (items_at pick spread d home) ns (λ n h. home-unrouted pick spread d home n)
 
 net-unrouted : (pick : NetworkSet) (spread : NetworkPart) (d : Option ℕ) (net : Option Network) → items_of pick spread d (option_map unrouted net) ≡ items_of pick spread d net
 net-unrouted pick spread d None = refl
@@ -35,9 +42,9 @@ net-unrouted pick spread d (Some n) = items-unrouted pick spread d None n
 split-unrouted : (pick : NetworkSet) (d : Option ℕ) (home : Option Network) (others : Option (List Network)) (net : Option Network)
     → flat_map (items_at pick EachDefault d (option_map unrouted home)) (elim others [ Some ns ↦ ns | None ↦ listed (option_map unrouted net) ])
     ≡ flat_map (items_at pick EachDefault d home) (elim others [ Some ns ↦ ns | None ↦ listed net ])
-split-unrouted pick d home (Some ns) net = flat-alike (items_at pick EachDefault d (option_map unrouted home)) (items_at pick EachDefault d home) ns (λ n h. home-unrouted pick d home n)
+split-unrouted pick d home (Some ns) net = networks-unrouted pick EachDefault d home ns
 split-unrouted pick d home None None = refl
-split-unrouted pick d home None (Some n) = ap (λ (xs : List Item). xs ++ []) (home-unrouted pick d home (unrouted n) ∙ items-unrouted pick EachDefault d home n)
+split-unrouted pick d home None (Some n) = ap (λ (xs : List Item). xs ++ []) (home-unrouted pick EachDefault d home (unrouted n) ∙ items-unrouted pick EachDefault d home n)
 
 part-unrouted : (per : OnePer) (p : Part) → part_items per (unrouted_part p) ≡ part_items per p
 part-unrouted Once p = refl

@@ -10,7 +10,6 @@ use Rattle.networks.specs.declared.kind.Kind.TheVariants as kind
 use Rattle.network_store.specs.Stored.{bare_net}
 use Rattle.policy_state.specs.Rows.{picks, default_of, default_among, items_at, range_item, pair_item}
 use Rattle.policy_state.specs.declared.row.Item.{Item}
-use Rattle.policy_state.specs.declared.row.Row.{Row}
 use Rattle.policy_state.specs.declared.row.NetworkSet.{NetworkSet}
 use Rattle.policy_state.specs.declared.row.NetworkPart.{NetworkPart}
 use Rattle.policy_state.specs.declared.row.OnePer.{OnePer}

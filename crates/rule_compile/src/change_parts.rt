@@ -6,6 +6,7 @@ ghost use Rattle.network_store.specs.Stored.{kind_of, net_of};
 ghost use Rattle.networks.specs.Kinds.{ranges_of};
 ghost use Rattle.networks.specs.Network.{has_link};
 ghost use Rattle.networks.specs.declared.network.Network.{Network};
+ghost use Rattle.policy_state.specs.Good.{IsGood};
 ghost use Rattle.policy_state.specs.Rows.{default_of, default_among};
 ghost use Rattle.policy_state.specs.Step.{is_pair};
 ghost use Rattle.rule_compile.specs.PartOf.{part_of, unrouted_part};
@@ -24,9 +25,10 @@ use std::alloc::{AllocError, Global};
 use uid_ranges::{Ranked, UidRange};
 
 /// The network of this id as the default one.
-fn home_of(state: &State, default: Option<u16>) -> Option<Shape>
-    ensures { option_map shape_net result ≡
+pub(crate) fn home_of(state: &State, default: Option<u16>) -> Option<Shape>
+    ensures value { option_map shape_net result ≡
         option_map unrouted (default_among state.now.networks default) }
+    ensures good { IsGood state.now }
 {
     match default_network(state.networks(), default) {
         Some(network) => Some(Shape::of(network)),

@@ -14,7 +14,6 @@ mod routes;
 mod rows;
 mod rule;
 mod shape;
-mod shape_rows;
 mod start;
 mod table;
 mod touched;

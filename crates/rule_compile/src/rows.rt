@@ -1,7 +1,7 @@
-//! The rules of a row of the table.
+//! The rules of a row: for networks, whole or in part, for lockdown ranges and for pairs.
 ghost use Rattle.std.specs.Prelude.{◌≡◌, ◌++◌, map, flat_map, IfOk};
 ghost use Rattle.std.specs.Option.{option_map};
-ghost use Rattle.network_store.specs.Stored.{net_of};
+ghost use Rattle.network_store.specs.Store.{nets_of};
 ghost use Rattle.networks.specs.Kinds.{ranges_of};
 ghost use Rattle.policy_state.specs.Rows.{
   nothing,
@@ -11,25 +11,24 @@ ghost use Rattle.policy_state.specs.Rows.{
   split_item,
   range_item,
   pair_item,
-  items_in,
   items_at,
-  default_of,
-  links_of,
-  needs_of,
+  items_in,
 };
-ghost use Rattle.policy_state.specs.Table.{rule_of, rules_in};
+ghost use Rattle.policy_state.specs.Table.{rule_of};
 ghost use Rattle.policy_state.specs.declared.row.NetworkPart.TheVariants.{Whole, EachInterface, EachRange, EachDefault};
+ghost use Rattle.rule_compile.specs.Shapes.{shape_net};
 
 use crate::rule::rule_of;
+use crate::shape::Shape;
 use fwmark::Permission;
-use network_store::StoredNetwork;
-use policy_state::{Item, NetworkPart, NetworkSet, OnePer, Row, State, TetherPair, picks};
+use network_store::StoredNetworks;
+use policy_state::{Item, NetworkPart, NetworkSet, Row, TetherPair};
 use rule_match::Rule;
 use std::alloc::AllocError;
 use uid_ranges::{Ranked, UidRange};
 
 /// The item of a row that has one rule for all.
-fn nothing() -> Item
+pub(crate) fn nothing() -> Item
     ensures { result ≡ nothing }
 {
     Item {
@@ -61,8 +60,8 @@ fn pair_item(pair: TetherPair) -> Item
     }
 }
 
-fn net_item(network: &StoredNetwork) -> Item
-    ensures { result ≡ net_item (net_of network.now) }
+fn net_item(network: &Shape) -> Item
+    ensures { result ≡ net_item (shape_net network.now) }
 {
     Item {
         net: network.id,
@@ -71,8 +70,8 @@ fn net_item(network: &StoredNetwork) -> Item
     }
 }
 
-fn link_item(network: &StoredNetwork, link: u16) -> Item
-    ensures { result ≡ link_item (net_of network.now) link }
+fn link_item(network: &Shape, link: u16) -> Item
+    ensures { result ≡ link_item (shape_net network.now) link }
 {
     Item {
         incoming: link,
@@ -81,8 +80,8 @@ fn link_item(network: &StoredNetwork, link: u16) -> Item
     }
 }
 
-fn user_item(network: &StoredNetwork, link: u16, range: Ranked) -> Item
-    ensures { result ≡ user_item (net_of network.now) link range }
+fn user_item(network: &Shape, link: u16, range: Ranked) -> Item
+    ensures { result ≡ user_item (shape_net network.now) link range }
 {
     Item {
         users: Some(range.users),
@@ -91,8 +90,8 @@ fn user_item(network: &StoredNetwork, link: u16, range: Ranked) -> Item
     }
 }
 
-fn split_item(network: &StoredNetwork, needs: Permission, link: u16) -> Item
-    ensures { result ≡ split_item (net_of network.now) needs link }
+fn split_item(network: &Shape, needs: Permission, link: u16) -> Item
+    ensures { result ≡ split_item (shape_net network.now) needs link }
 {
     Item {
         net: network.id,
@@ -102,15 +101,11 @@ fn split_item(network: &StoredNetwork, needs: Permission, link: u16) -> Item
     }
 }
 
-fn push_interfaces(
-    rules: &mut Vec<Rule>,
-    row: &Row,
-    network: &StoredNetwork,
-) -> Result<(), AllocError>
+fn push_interfaces(rules: &mut Vec<Rule>, row: &Row, network: &Shape) -> Result<(), AllocError>
     ensures { IfOk result (λ _. rules.new.items ≡ rules.old.items ++
-        map (rule_of row.now) (map (link_item (net_of network.now)) (net_of network.now).interfaces)) }
+        map (rule_of row.now) (map (link_item (shape_net network.now)) network.now.links.now)) }
 {
-    for link in network.interfaces.as_slice() {
+    for link in network.links {
         rules.push(rule_of(row, &link_item(network, *link)))?;
     }
     Ok(())
@@ -119,11 +114,12 @@ fn push_interfaces(
 fn push_ranges_at(
     rules: &mut Vec<Rule>,
     row: &Row,
-    network: &StoredNetwork,
+    network: &Shape,
     link: u16,
 ) -> Result<(), AllocError>
     ensures { IfOk result (λ _. rules.new.items ≡ rules.old.items ++
-        map (rule_of row.now) (map (user_item (net_of network.now) link) (ranges_of (net_of network.now).kind))) }
+        map (rule_of row.now) (map (user_item (shape_net network.now) link)
+        (ranges_of (shape_net network.now).kind))) }
 {
     for range in network.kind.ranges() {
         rules.push(rule_of(row, &user_item(network, link, *range)))?;
@@ -132,27 +128,27 @@ fn push_ranges_at(
 }
 
 /// Appends a row's rules for each interface with each range.
-fn push_ranges(rules: &mut Vec<Rule>, row: &Row, network: &StoredNetwork) -> Result<(), AllocError>
+fn push_ranges(rules: &mut Vec<Rule>, row: &Row, network: &Shape) -> Result<(), AllocError>
     ensures { IfOk result (λ _. rules.new.items ≡ rules.old.items ++ map (rule_of row.now)
-        (flat_map (λ link. map (user_item (net_of network.now) link) (ranges_of (net_of network.now).kind))
-        (net_of network.now).interfaces)) }
+        (flat_map (λ link. map (user_item (shape_net network.now) link)
+        (ranges_of (shape_net network.now).kind)) network.now.links.now)) }
 {
-    for link in network.interfaces.as_slice() {
+    for link in network.links {
         push_ranges_at(rules, row, network, *link)?;
     }
     Ok(())
 }
 
-/// Appends a row's rules for these interfaces of the default network, which asks for the permission.
-fn push_split(
+/// Appends a row's rules of a network for these interfaces of the default network, which asks for the permission.
+fn push_interfaces_of(
     rules: &mut Vec<Rule>,
     row: &Row,
-    network: &StoredNetwork,
+    network: &Shape,
     needs: Permission,
     links: &[u16],
 ) -> Result<(), AllocError>
     ensures { IfOk result (λ _. rules.new.items ≡ rules.old.items ++
-        map (rule_of row.now) (map (split_item (net_of network.now) needs) links.now)) }
+        map (rule_of row.now) (map (split_item (shape_net network.now) needs) links.now)) }
 {
     for link in links {
         rules.push(rule_of(row, &split_item(network, needs, *link)))?;
@@ -160,37 +156,34 @@ fn push_split(
     Ok(())
 }
 
-fn push_default(
+/// Appends a row's rules of a network for the interfaces of the default network.
+fn push_split(
     rules: &mut Vec<Rule>,
     row: &Row,
-    home: Option<&StoredNetwork>,
-    network: &StoredNetwork,
+    home: Option<Shape>,
+    network: &Shape,
 ) -> Result<(), AllocError>
-    ensures { IfOk result (λ _. rules.new.items ≡ rules.old.items ++
-        map (rule_of row.now) (items_in EachDefault (option_map (λ n. net_of n.now) home.entry) (net_of network.now))) }
+    ensures { IfOk result (λ _. rules.new.items ≡ rules.old.items ++ map (rule_of row.now)
+        (items_in EachDefault (option_map shape_net home.entry) (shape_net network.now))) }
 {
     match home {
-        Some(home) => push_split(
-            rules,
-            row,
-            network,
-            home.kind.permission(),
-            home.interfaces.as_slice(),
-        ),
+        Some(home) => {
+            push_interfaces_of(rules, row, network, home.kind.permission(), home.links)
+        }
         None => Ok(()),
     }
 }
 
-/// Appends a row's rules for this part of a network.
+/// Appends a row's rules for this part of a network, where this is the default network.
 fn push_part(
     rules: &mut Vec<Rule>,
     row: &Row,
     part: NetworkPart,
-    home: Option<&StoredNetwork>,
-    network: &StoredNetwork,
+    home: Option<Shape>,
+    network: &Shape,
 ) -> Result<(), AllocError>
-    ensures { IfOk result (λ _. rules.new.items ≡ rules.old.items ++
-        map (rule_of row.now) (items_in part (option_map (λ n. net_of n.now) home.entry) (net_of network.now))) }
+    ensures { IfOk result (λ _. rules.new.items ≡ rules.old.items ++ map (rule_of row.now)
+        (items_in part (option_map shape_net home.entry) (shape_net network.now))) }
 {
     match part {
         NetworkPart::Whole => {
@@ -199,36 +192,56 @@ fn push_part(
         }
         NetworkPart::EachInterface => push_interfaces(rules, row, network),
         NetworkPart::EachRange => push_ranges(rules, row, network),
-        NetworkPart::EachDefault => push_default(rules, row, home, network),
+        NetworkPart::EachDefault => push_split(rules, row, home, network),
     }
 }
 
-/// Appends a row's rules for this part of each of these networks, in the order of their creation.
-fn push_networks(
+/// Appends a row's rules for this part of a network where the row has rules for it.
+pub(crate) fn push_network(
     rules: &mut Vec<Rule>,
     row: &Row,
     set: NetworkSet,
     part: NetworkPart,
-    state: &State,
-    home: Option<&StoredNetwork>,
+    default: Option<u16>,
+    home: Option<Shape>,
+    network: &Shape,
 ) -> Result<(), AllocError>
-    requires home { option_map (λ n. net_of n.now) home ≡ default_of state.now }
-    ensures { IfOk result (λ _. rules.new.items ≡ rules.old.items ++ map (rule_of row.now) (flat_map
-        (items_at set part state.now.default (default_of state.now)) state.now.networks)) }
+    ensures { IfOk result (λ _. rules.new.items ≡ rules.old.items ++ map (rule_of row.now)
+        (items_at set part default (option_map shape_net home.entry) (shape_net network.now))) }
 {
-    let networks = state.networks();
-    let default = state.default_net();
+    if network.is_picked(set, default) {
+        push_part(rules, row, part, home, network)
+    } else {
+        Ok(())
+    }
+}
+
+/// Appends a row's rules for this part of each of these networks, in the order of their creation.
+pub(crate) fn push_networks(
+    rules: &mut Vec<Rule>,
+    row: &Row,
+    set: NetworkSet,
+    part: NetworkPart,
+    default: Option<u16>,
+    home: Option<Shape>,
+    networks: &StoredNetworks,
+) -> Result<(), AllocError>
+    ensures { IfOk result (λ _. rules.new.items ≡ rules.old.items ++ map (rule_of row.now) (flat_map
+        (items_at set part default (option_map shape_net home.entry)) (nets_of networks.now))) }
+{
     for place in 0..networks.len() {
         if let Some(network) = networks.at(place) {
-            if picks(set, default, network) {
-                push_part(rules, row, part, home, network)?;
-            }
+            push_network(rules, row, set, part, default, home, &Shape::of(network))?;
         }
     }
     Ok(())
 }
 
-fn push_lockdown(rules: &mut Vec<Rule>, row: &Row, lockdown: &[UidRange]) -> Result<(), AllocError>
+pub(crate) fn push_lockdown(
+    rules: &mut Vec<Rule>,
+    row: &Row,
+    lockdown: &[UidRange],
+) -> Result<(), AllocError>
     ensures { IfOk result (λ _. rules.new.items ≡ rules.old.items ++
         map (rule_of row.now) (map range_item lockdown.now)) }
 {
@@ -238,7 +251,11 @@ fn push_lockdown(rules: &mut Vec<Rule>, row: &Row, lockdown: &[UidRange]) -> Res
     Ok(())
 }
 
-fn push_pairs(rules: &mut Vec<Rule>, row: &Row, pairs: &[TetherPair]) -> Result<(), AllocError>
+pub(crate) fn push_pairs(
+    rules: &mut Vec<Rule>,
+    row: &Row,
+    pairs: &[TetherPair],
+) -> Result<(), AllocError>
     ensures { IfOk result (λ _. rules.new.items ≡ rules.old.items ++
         map (rule_of row.now) (map pair_item pairs.now)) }
 {
@@ -246,25 +263,4 @@ fn push_pairs(rules: &mut Vec<Rule>, row: &Row, pairs: &[TetherPair]) -> Result<
         rules.push(rule_of(row, &pair_item(*pair)))?;
     }
     Ok(())
-}
-
-/// Appends the rules of a row, as its items come. It is lent the default network.
-pub(crate) fn push_row(
-    rules: &mut Vec<Rule>,
-    row: &Row,
-    state: &State,
-    home: Option<&StoredNetwork>,
-) -> Result<(), AllocError>
-    requires home { option_map (λ n. net_of n.now) home ≡ default_of state.now }
-    ensures { IfOk result (λ _. rules.new.items ≡ rules.old.items ++ rules_in state.now row.now) }
-{
-    match row.per {
-        OnePer::Once => {
-            rules.push(rule_of(row, &nothing()))?;
-            Ok(())
-        }
-        OnePer::EachLockdown => push_lockdown(rules, row, state.lockdown()),
-        OnePer::EachPair => push_pairs(rules, row, state.pairs()),
-        OnePer::EachOf(set, part) => push_networks(rules, row, set, part, state, home),
-    }
 }

@@ -1,16 +1,18 @@
 //! The whole table: row by row, and in a row with ranks rank by rank.
 ghost use Rattle.std.specs.Prelude.{◌≡◌, ◌==◌, ◌≤◌, ◌++◌, filter, flat_map, IfOk, OnOk};
 ghost use Rattle.std.specs.Option.{option_map};
-ghost use Rattle.network_store.specs.Stored.{net_of};
 ghost use Rattle.rule_kinds.specs.Kind.{rule_kind};
 ghost use Rattle.rule_law.specs.Rules.{HasEachOnce};
 ghost use Rattle.policy_state.specs.Good.{IsGood};
 ghost use Rattle.policy_state.specs.Rows.{default_of, numbers_from};
 ghost use Rattle.policy_state.specs.Table.{in_order, rules_in, rule_table};
+ghost use Rattle.rule_compile.specs.Shapes.{shape_net, unrouted};
 
-use crate::rows::push_row;
-use network_store::StoredNetwork;
-use policy_state::{ROWS, Row, State, default_network};
+use crate::change_parts::home_of;
+use crate::rows::{nothing, push_lockdown, push_networks, push_pairs};
+use crate::rule::rule_of;
+use crate::shape::Shape;
+use policy_state::{OnePer, ROWS, Row, State};
 use rule_match::Rule;
 use std::alloc::{AllocError, Global};
 
@@ -43,16 +45,40 @@ fn push_by_rank(rules: &mut Vec<Rule>, base: u32, made: &[Rule]) -> Result<(), A
     Ok(())
 }
 
+/// Appends the rules of a row, as its items come. It is lent the default network.
+fn push_row(
+    rules: &mut Vec<Rule>,
+    row: &Row,
+    state: &State,
+    home: Option<Shape>,
+) -> Result<(), AllocError>
+    requires home { option_map shape_net home ≡ option_map unrouted (default_of state.now) }
+    ensures { IfOk result (λ _. rules.new.items ≡ rules.old.items ++ rules_in state.now row.now) }
+{
+    match row.per {
+        OnePer::Once => {
+            rules.push(rule_of(row, &nothing()))?;
+            Ok(())
+        }
+        OnePer::EachLockdown => push_lockdown(rules, row, state.lockdown()),
+        OnePer::EachPair => push_pairs(rules, row, state.pairs()),
+        OnePer::EachOf(set, part) => {
+            let networks = state.networks();
+            push_networks(rules, row, set, part, state.default_net(), home, networks)
+        }
+    }
+}
+
 /// Appends the rules of a row in order of priority.
 fn push_in_order(
     alloc: Global,
     rules: &mut Vec<Rule>,
     row: &Row,
     state: &State,
-    home: Option<&StoredNetwork>,
+    home: Option<Shape>,
 ) -> Result<(), AllocError>
     requires good { IsGood state.now }
-    requires home { option_map (λ n. net_of n.now) home ≡ default_of state.now }
+    requires home { option_map shape_net home ≡ option_map unrouted (default_of state.now) }
     ensures { IfOk result (λ _. rules.new.items ≡ rules.old.items ++
         in_order rule_kind (rules_in state.now row.now)) }
 {
@@ -70,10 +96,10 @@ fn push_rows(
     rules: &mut Vec<Rule>,
     rows: &[Row],
     state: &State,
-    home: Option<&StoredNetwork>,
+    home: Option<Shape>,
 ) -> Result<(), AllocError>
     requires good { IsGood state.now }
-    requires home { option_map (λ n. net_of n.now) home ≡ default_of state.now }
+    requires home { option_map shape_net home ≡ option_map unrouted (default_of state.now) }
     ensures { IfOk result (λ _. rules.new.items ≡ rules.old.items ++
         flat_map (λ row. in_order rule_kind (rules_in state.now row)) rows.now) }
 {
@@ -90,7 +116,7 @@ pub fn rules(alloc: Global, state: &State) -> Result<Vec<Rule>, AllocError>
     // no rule stands twice
     ensures once { OnOk result (HasEachOnce rule_kind (rule_table state.now)) }
 {
-    let home = default_network(state.networks(), state.default_net());
+    let home = home_of(state, state.default_net());
     let mut rules = Vec::new(alloc);
     push_rows(alloc, &mut rules, &ROWS, state, home)?;
     Ok(rules)

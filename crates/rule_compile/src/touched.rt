@@ -12,8 +12,8 @@ ghost use Rattle.rule_compile.specs.Shapes.{shape_net, unrouted};
 ghost use Rattle.rule_compile.specs.Touched as parts;
 
 use crate::part::Extent;
+use crate::rows::{push_lockdown, push_network, push_networks, push_pairs};
 use crate::shape::Shape;
-use crate::shape_rows::{push_lockdown, push_network, push_pairs, push_split};
 use network_store::StoredNetworks;
 use policy_state::{NetworkPart, NetworkSet, OnePer, ROWS, Row, TetherPair};
 use rule_match::Rule;
@@ -76,30 +76,10 @@ fn push_own(
 {
     match &touched.network {
         Some(network) if reaches(touched.extent, set, part) => {
-            push_network(rules, row, set, part, touched.default, network)
+            push_network(rules, row, set, part, touched.default, None, network)
         }
         _ => Ok(()),
     }
-}
-
-/// Appends a row's rules of each network for these interfaces of the default network.
-fn push_each_split(
-    rules: &mut Vec<Rule>,
-    row: &Row,
-    set: NetworkSet,
-    default: Option<u16>,
-    home: &Shape,
-    networks: &StoredNetworks,
-) -> Result<(), AllocError>
-    ensures { IfOk result (λ _. rules.new.items ≡ rules.old.items ++ map (rule_of row.now) (flat_map
-        (items_at set EachDefault default (Some (shape_net home.now))) (nets_of networks.now))) }
-{
-    for place in 0..networks.len() {
-        if let Some(network) = networks.at(place) {
-            push_split(rules, row, set, default, home, &Shape::of(network))?;
-        }
-    }
-    Ok(())
 }
 
 /// Appends a row's rules for the interfaces of the default network that are touched.
@@ -119,11 +99,28 @@ fn push_splits(
     if home.links.is_empty() {
         return Ok(());
     }
+    let part = NetworkPart::EachDefault;
     if let Some(networks) = touched.others {
-        return push_each_split(rules, row, set, touched.default, home, networks);
+        return push_networks(
+            rules,
+            row,
+            set,
+            part,
+            touched.default,
+            touched.home,
+            networks,
+        );
     }
     match &touched.network {
-        Some(network) => push_split(rules, row, set, touched.default, home, network),
+        Some(network) => push_network(
+            rules,
+            row,
+            set,
+            part,
+            touched.default,
+            touched.home,
+            network,
+        ),
         None => Ok(()),
     }
 }

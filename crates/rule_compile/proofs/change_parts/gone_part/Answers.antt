@@ -1,4 +1,3 @@
-use Rattle.std.proofs.Common.{◌≡◌}
 use Rattle.network_store.specs.Stored.{net_of}
 use Rattle.rule_compile.proofs.change_parts.gone_part.Goals as goal
 

@@ -11,10 +11,10 @@ use Rattle.rule_compile.proofs.table.rules.Goals as goal
 
 pub returns-clause-value : goal.returns-clause-value
 returns-clause-value c =
-    let good = is-good c.args.state.now c.networks.ensures.good.formed in
+    let good = is-good c.args.state.now c.home_of-home.ensures.good.formed in
     c.in_ok-push_rows.ensures
     ∙ (ap (λ zs. zs ++ flat_map (λ row. in_order rule_kind (rules_in c.args.state.now row)) rows) c.new-rules.ensures.items
     ∙ (sym (table-in_order (owners_of c.args.state.now) c.args.state.now good.owns) ∙ sym (table-is c.args.state.now)))
 
 pub returns-clause-once : goal.returns-clause-once
-returns-clause-once c = table-once c.args.state.now c.networks.ensures.good.formed
+returns-clause-once c = table-once c.args.state.now c.home_of-home.ensures.good.formed

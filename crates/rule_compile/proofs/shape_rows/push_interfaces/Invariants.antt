@@ -1,8 +1,0 @@
-use Rattle.std.proofs.Common.{◌≡◌, ◌++◌, map, take}
-use Rattle.rule_compile.specs.Shapes.{shape_net}
-use Rattle.policy_state.specs.Rows.{link_item}
-use Rattle.policy_state.specs.Table.{rule_of}
-use Rattle.rule_compile.proofs.shape_rows.push_interfaces.Given as goal
-
-abbrev pub invariant-loop-link : goal.invariant-loop-link
-invariant-loop-link l = l.rules.items ≡ l.initial.rules.items ++ map (rule_of l.row) (map (link_item (shape_net l.network)) (take l.link-index (shape_net l.network).interfaces))
