@@ -63,7 +63,14 @@ fn each_read_fails_in_turn(rt: HostRuntime) -> Result<(), Fail> {
         let (ended, written) = run_over(rt.alloc(), TWO, &streams, &mut kernel)?;
         let whole = number > FIRST_LINE;
         assert!(rt; ended.status() == Status::Stopped(Stop::ReadFault));
-        assert!(rt; written.as_slice() == if whole { b"1: done\n".as_slice() } else { b"".as_slice() });
+        assert!(rt;
+            written.as_slice()
+                == if whole {
+                    b"1: done\n".as_slice()
+                } else {
+                    b"".as_slice()
+                }
+        );
         assert_eq!(rt; is_locked_down(&kernel), whole);
     }
     Ok(())
