@@ -1,10 +1,7 @@
 -- The least spot that fits, found in part.
-use Rattle.std.proofs.Common.{◌≡◌, ℕ, zero, suc, ◌+◌, ◌<◌, ◌≤◌, Bool, true, false, cond, List, [], ◌∷◌, length, take, drop, ◌-◌, refl, sym, subst, ◌∙◌, ap, arith, inl, inr, nat_lt, slice_get, Option, Some, None}
+use Rattle.std.proofs.Common.{◌≡◌, ℕ, suc, ◌+◌, ◌<◌, ◌≤◌, Bool, true, false, cond, List, [], ◌∷◌, drop, refl, sym, ◌∙◌, ap, arith, inl, inr, nat_lt, Option, Some, None}
 use Rattle.list_lemmas.proofs.Alls.{all-weaker}
 use Rattle.std.specs.List.{AllByRecursion}
-use Rattle.std.proofs.Math.Seq.{take-length}
-use Rattle.list_lemmas.proofs.Places.{drop-next}
-use Rattle.std.proofs.lemmas.List.{drop-drop}
 use Rattle.std.proofs.lemmas.Bool.{cases_Bool, ltb-true, false≢true}
 use Rattle.rule_match.specs.declared.packet.Packet.{Packet}
 use Rattle.rule_match.specs.declared.rule.Rule.{Rule}
@@ -13,7 +10,6 @@ use Rattle.rule_index.specs.Spots.{lex, below, flat, jump}
 use Rattle.rule_index.specs.Sorted.{Rises, place_of}
 use Rattle.rule_index.specs.Search.{fits, better, least, is_past, IsKeyed, AreKeyed}
 use Rattle.rule_index.proofs.Orders.{lex-true, lex-less}
-use Rattle.rule_index.proofs.Places.{each-drop, rises-drop}
 use Rattle.rule_index.proofs.Jumps.{jumps-outside, jump-between, outside-misses}
 
 module _ (rules : List Rule) (p : Packet) (from : Spot) where

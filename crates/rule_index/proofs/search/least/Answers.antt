@@ -1,4 +1,4 @@
-use Rattle.std.proofs.Common.{◌≡◌, ◌∷◌, ◌∙◌, List, refl, sym, ap, subst, drop, length, arith, None}
+use Rattle.std.proofs.Common.{◌∙◌, refl, sym, ap, subst, length, arith, None}
 use Rattle.std.proofs.lemmas.List.{length-map, length-drop}
 use Rattle.rule_index.specs.declared.spot.Spot.{Spot}
 use Rattle.rule_index.specs.declared.spot.Sorting.TheVariants.{ByKey}
