@@ -1,13 +1,13 @@
 -- Runs of which one is closed up, or halved.
 use Rattle.std.proofs.Common.{◌≡◌, ℕ, zero, suc, ◌+◌, ◌/◌, ◌<◌, ◌≤◌, List, [], ◌∷◌, ◌++◌, length, take, drop, set, refl, sym, ◌∙◌, ap, subst, arith, slice_get, Some, vec_len, vec_capacity, length-append}
-use Rattle.std.specs.List.{AllByRecursion, insert, remove}
+use Rattle.std.specs.List.{insert, remove}
 use Rattle.std.specs.declared.vec.Vec.{Vec}
 use Rattle.std.proofs.lemmas.List.{append_assoc, take-append-drop, nil_from_length, length-take, length-drop, length-set, drop-set}
 use Rattle.std.proofs.lemmas.Option.{slice_get_within}
-use Rattle.list_lemmas.proofs.Alls.{all-at, all-append, all-append_parts, all-take, all-weaker}
+use Rattle.list_lemmas.proofs.Alls.{all-at, all-append, all-take}
 use Rattle.number_runs.specs.Runs.{numbers_of, IsFilled, AllFilled, AreFilled, HasRoom, HaveRoom}
 use Rattle.number_runs.specs.Kept.{Keeps}
-use Rattle.number_runs.proofs.Lists.{split, set-split, all-set, all-drop, insert-next}
+use Rattle.number_runs.proofs.Lists.{split, all-set, all-drop, insert-next}
 use Rattle.number_runs.proofs.Flat.{numbers-append, numbers-split, numbers-set}
 
 module _ {A : Type 0} where

@@ -1,6 +1,6 @@
 -- Where numbers stand in runs.
-use Rattle.std.proofs.Common.{◌≡◌, ℕ, zero, suc, ◌+◌, ◌-◌, ◌<◌, ◌≤◌, min, Bool, true, false, List, [], ◌∷◌, ◌++◌, length, take, drop, set, refl, sym, ◌∙◌, ap, subst, arith, inl, inr, ◌⊎◌, slice_get, Option, Some, None, length-append, add-zero}
-use Rattle.std.specs.List.{AllByRecursion, flat_map, prefix_len, insert, remove}
+use Rattle.std.proofs.Common.{◌≡◌, ℕ, zero, suc, ◌+◌, ◌-◌, ◌<◌, ◌≤◌, min, Bool, true, false, List, [], ◌∷◌, ◌++◌, length, take, drop, set, refl, sym, ◌∙◌, ap, subst, arith, inl, inr, slice_get, Option, Some, None, length-append, add-zero}
+use Rattle.std.specs.List.{AllByRecursion, prefix_len, insert, remove}
 use Rattle.std.specs.declared.vec.Vec.{Vec}
 use Rattle.std.proofs.lemmas.List.{append-nil, take_all, drop_all, take-append-drop, take_rest, drop-drop, drop_at, drop-append-le, length-drop}
 use Rattle.std.proofs.lemmas.List.Concat.{flat_map-append}

@@ -1,5 +1,5 @@
 -- What stays of runs that get room.
-use Rattle.std.specs.Prelude.{◌≡◌, ℕ, ◌<◌, ◌≤◌, List, length}
+use Rattle.std.specs.Prelude.{◌≡◌, ℕ, ◌≤◌, List, length}
 use Rattle.std.specs.declared.vec.Vec.{Vec}
 use Rattle.number_runs.specs.Runs.{numbers_of, AreFilled, HaveRoom}
 

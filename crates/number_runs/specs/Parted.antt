@@ -1,5 +1,5 @@
 -- Lists of which the numbers that pass a test stand first.
-use Rattle.std.specs.Prelude.{◌≡◌, ℕ, Bool, true, List, [], ◌∷◌}
+use Rattle.std.specs.Prelude.{◌≡◌, Bool, true, List, [], ◌∷◌}
 use Rattle.std.specs.List.{AllByRecursion}
 
 -- where a number passes, those before it pass

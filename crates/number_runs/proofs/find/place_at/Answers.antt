@@ -1,8 +1,6 @@
-use Rattle.std.proofs.Common.{◌∙◌, ap, length, refl, subst, sym, List, ℕ}
-use Rattle.std.specs.List.{prefix_len}
+use Rattle.std.proofs.Common.{length, refl, subst, sym, List, ℕ}
 use Rattle.std.proofs.lemmas.Option.{slice_get_read}
 use Rattle.number_runs.specs.Parted.{IsParted}
-use Rattle.number_runs.specs.Runs.{place_at}
 use Rattle.number_runs.proofs.Flat.{run-parted}
 use Rattle.number_runs.proofs.find.place_at.Goals as goal
 
