@@ -1,10 +1,7 @@
 -- The least spot that fits, found in part.
-use Rattle.std.proofs.Common.{◌≡◌, ℕ, zero, suc, ◌+◌, ◌<◌, ◌≤◌, Bool, true, false, cond, List, [], ◌∷◌, length, take, drop, ◌-◌, refl, sym, subst, ◌∙◌, ap, arith, inl, inr, nat_lt, slice_get, Option, Some, None}
+use Rattle.std.proofs.Common.{◌≡◌, ℕ, suc, ◌+◌, ◌<◌, ◌≤◌, Bool, true, false, cond, List, [], ◌∷◌, drop, refl, sym, ◌∙◌, ap, arith, inl, inr, nat_lt, Option, Some, None}
 use Rattle.list_lemmas.proofs.Alls.{all-weaker}
 use Rattle.std.specs.List.{AllByRecursion}
-use Rattle.std.proofs.Math.Seq.{take-length}
-use Rattle.list_lemmas.proofs.Places.{drop-next}
-use Rattle.std.proofs.lemmas.List.{drop-drop}
 use Rattle.std.proofs.lemmas.Bool.{cases_Bool, ltb-true, false≢true}
 use Rattle.rule_match.specs.declared.packet.Packet.{Packet}
 use Rattle.rule_match.specs.declared.rule.Rule.{Rule}
@@ -13,7 +10,6 @@ use Rattle.rule_index.specs.Spots.{lex, below, flat, jump}
 use Rattle.rule_index.specs.Sorted.{Rises, place_of}
 use Rattle.rule_index.specs.Search.{fits, better, least, is_past, IsKeyed, AreKeyed}
 use Rattle.rule_index.proofs.Orders.{lex-true, lex-less}
-use Rattle.rule_index.proofs.Places.{each-drop, rises-drop}
 use Rattle.rule_index.proofs.Jumps.{jumps-outside, jump-between, outside-misses}
 
 module _ (rules : List Rule) (p : Packet) (from : Spot) where
@@ -61,7 +57,7 @@ module _ (rules : List Rule) (p : Packet) (from : Spot) where
   both P Q [] a b = tt
   both P Q (s ∷ ss) a b = ((a.0, b.0), both P Q ss a.1 b.1)
 
-  jumps : (found : Option Spot) (s t : Spot) (ss : List Spot) → jump p s ≡ Some t → Rises (s ∷ ss) → AreKeyed rules (s ∷ ss)
+  pub jumps : (found : Option Spot) (s t : Spot) (ss : List Spot) → jump p s ≡ Some t → Rises (s ∷ ss) → AreKeyed rules (s ∷ ss)
       → least rules p from found (s ∷ ss) ≡ least rules p from found (drop (place_of t ss) ss)
   jumps found s t ss is rises keyed =
       ap (λ o. least rules p from o ss) (misses-better found s (outside-misses rules p from s keyed.0 (jumps-outside p s t is)))
@@ -84,35 +80,10 @@ module _ (rules : List Rule) (p : Packet) (from : Spot) where
   not_earlier : (s e : Spot) → below s e ≡ true → s.priority ≤ e.priority
   not_earlier s e h = elim (lex-true s.priority e.priority _ h) [ inl a ↦ omega arith | inr a ↦ omega (arith, a.0) ]
 
-  ended : (found : Option Spot) (s : Spot) (ss : List Spot) → is_past found s ≡ true → Rises (s ∷ ss) → least rules p from found (s ∷ ss) ≡ found
+  pub ended : (found : Option Spot) (s : Spot) (ss : List Spot) → is_past found s ≡ true → Rises (s ∷ ss) → least rules p from found (s ∷ ss) ≡ found
   ended None s ss h rises = absurd (false≢true h)
   ended (Some best) s ss h rises =
       ends best s (ltb-true _ _ h) (s ∷ ss) (omega arith, all-weaker _ _ (not_earlier s) ss rises.0)
-
-  -- the same at a place of the list
-  module _ (ss : List Spot) (at : ℕ) (s : Spot) (there : slice_get ss at ≡ Some s) where
-    cons : drop at ss ≡ s ∷ drop (at + 1) ss
-    cons = drop-next ss at s there
-
-    pub least-ended : (found : Option Spot) → Rises ss → is_past found s ≡ true → least rules p from found (drop at ss) ≡ found
-    least-ended found rises h = ap (least rules p from found) cons ∙ ended found s (drop (at + 1) ss) h (subst Rises cons (rises-drop at ss rises))
-
-    pub least-next : (found : Option Spot) → least rules p from (better rules p from found s) (drop (at + 1) ss) ≡ least rules p from found (drop at ss)
-    least-next found = sym (ap (least rules p from found) cons)
-
-    pub least-jump : (found : Option Spot) (t : Spot) (n : ℕ) → Rises ss → AreKeyed rules ss → jump p s ≡ Some t → n ≡ place_of t (drop (at + 1) ss)
-        → least rules p from found (drop (at + 1 + n) ss) ≡ least rules p from found (drop at ss)
-    least-jump found t n rises keyed is place =
-        sym (ap (least rules p from found) cons
-        ∙ jumps found s t (drop (at + 1) ss) is (subst Rises cons (rises-drop at ss rises)) (subst (AreKeyed rules) cons (each-drop (IsKeyed rules) at ss keyed))
-        ∙ ap (λ m. least rules p from found (drop m (drop (at + 1) ss))) (sym place)
-        ∙ ap (least rules p from found) (drop-drop n (at + 1) ss))
-
--- what a slice from a place on holds
-pub rest_is : {X : Type 0} (n : ℕ) (ss : List X) → take (length ss - n) (drop n ss) ≡ drop n ss
-rest_is zero ss = let e : length ss - 0 ≡ length ss = omega arith in rw e (take-length ss)
-rest_is (suc n) [] = let e : 0 - suc n ≡ 0 = omega arith in rw e refl
-rest_is (suc n) (s ∷ ss) = let e : suc (length ss) - suc n ≡ length ss - n = omega arith in rw e (rest_is n ss)
 
 -- what a place past the end reads
 abbrev pub zero_spot : Spot

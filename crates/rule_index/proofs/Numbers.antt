@@ -1,36 +1,27 @@
 -- Lists of numbers, as the spots of their rules.
-use Rattle.std.proofs.Common.{◌≡◌, ℕ, zero, suc, ◌+◌, ◌<◌, Bool, true, false, cond, List, [], ◌∷◌, ◌++◌, length, map, drop, get_or, refl, sym, subst, ◌∙◌, ap, slice_get, Some, None}
+use Rattle.std.proofs.Common.{◌≡◌, ℕ, zero, suc, ◌+◌, Bool, true, false, cond, List, [], ◌∷◌, ◌++◌, map, drop, refl, sym, ◌∙◌, ap, slice_get, Some, None}
 use Rattle.std.specs.List.{AllByRecursion, prefix_len, insert, remove, find}
-use Rattle.std.specs.List.Sorted.{IsPartitionedBy}
 use Rattle.std.specs.Option.{option_map}
-use Rattle.std.proofs.Math.ListN.{get_or-map}
 use Rattle.std.proofs.lemmas.List.{drop-map}
-use Rattle.std.proofs.lemmas.Option.{slice_get_within, slice_get-map, slice_get-get_or}
+use Rattle.std.proofs.lemmas.Option.{none-some, same_Some, slice_get_within, slice_get-map}
+use Rattle.list_lemmas.proofs.Alls.{all-weaker}
+use Rattle.number_runs.specs.Parted.{IsParted}
 use Rattle.list_lemmas.proofs.Places.{slice_get-left}
 use Rattle.rule_match.specs.declared.rule.Rule.{Rule}
 use Rattle.rule_index.specs.declared.spot.Sorting.{Sorting}
 use Rattle.rule_index.specs.declared.spot.Sorting.TheVariants.{ByArrival, ByKey}
 use Rattle.rule_index.specs.declared.spot.Spot.{Spot}
 use Rattle.rule_index.specs.Spots.{below, rule_with, standing_by, spot_by, or_own}
-use Rattle.rule_index.specs.Sorted.{Rises, place_of, spots_by}
-use Rattle.rule_index.specs.Search.{is_number_of, is_same, first_same}
+use Rattle.rule_index.specs.Sorted.{Rises, place_of, put, cut, spots_by}
 use Rattle.rule_index.specs.Index.{IsIndexed, Stands}
-use Rattle.rule_index.proofs.Places.{parted}
+use Rattle.rule_index.proofs.Orders.{below-trans}
+use Rattle.rule_index.proofs.Places.{put-insert, cut-remove}
 use Rattle.rule_index.proofs.Puts.{all-flat, StandsFlat}
 
 module _ (f : ℕ → Spot) (t : Spot) where
   pub place_of-map : (ns : List ℕ) → place_of t (map f ns) ≡ prefix_len (λ n. below (f n) t) ns
   place_of-map [] = refl
   place_of-map (n ∷ ns) = ap (λ k. cond (below (f n) t) (1 + k) 0) (place_of-map ns)
-
-  pub parted_numbers : (ns : List ℕ) → Rises (map f ns) → IsPartitionedBy (λ n. below (f n) t) ns
-  parted_numbers ns rises i j d le lt h =
-      subst (λ (s : Spot). below s t ≡ true) (get_or-map f ns i d)
-      (parted t (map f ns) rises i j (f d) le (rw (length-map f ns) lt) (subst (λ (s : Spot). below s t ≡ true) (sym (get_or-map f ns j d)) h))
-    where
-      length-map : (f : ℕ → Spot) (ns : List ℕ) → length (map f ns) ≡ length ns
-      length-map f [] = refl
-      length-map f (n ∷ ns) = ap suc (length-map f ns)
 
 module _ {X Y : Type 0} (f : X → Y) where
   pub map-insert : (xs : List X) (i : ℕ) (x : X) → map f (insert xs i x) ≡ insert (map f xs) i (f x)
@@ -93,13 +84,50 @@ module _ (rules more : List Rule) where
     pub keyed-longer : spots_by ByKey (rules ++ more) keyed ≡ spots_by ByKey rules keyed
     keyed-longer = spots-longer ByKey keyed (arrived_by_key keyed ix.stand)
 
--- the number at a place, as its spot
-pub spot-there : (rules : List Rule) (sorting : Sorting) (ns : List ℕ) (at : ℕ) (s : Spot) → at < length ns → s ≡ spot_by sorting rules (get_or ns at 0) → slice_get (spots_by sorting rules ns) at ≡ Some s
-spot-there rules sorting ns at s within is = there-map (spot_by sorting rules) ns at (get_or ns at 0) (slice_get-get_or ns at 0 within) ∙ ap Some (sym is)
+-- those of sorted numbers that stand below a spot come first
+pub parted-rises : (f : ℕ → Spot) (t : Spot) (ns : List ℕ) → Rises (map f ns) → IsParted (λ n. below (f n) t) ns
+parted-rises f t [] h = tt
+parted-rises f t (n ∷ ns) h = (
+  all-weaker (λ m. below (f n) (f m) ≡ true) (λ m. below (f m) t ≡ true → below (f n) t ≡ true) (λ m e k. below-trans (f n) (f m) t e k) ns
+      (all-unmapped (λ s. below (f n) s ≡ true) f ns h.0),
+  parted-rises f t ns h.1,
+)
 
--- the first number of a rule is the number of its first spot
-pub first_same-numbers : (rules : List Rule) (rule : Rule) (start : Spot) (ns : List ℕ)
-    → option_map (spot_by ByKey rules) (find (is_number_of rules rule) (drop (place_of start (spots_by ByKey rules ns)) ns)) ≡ first_same rules rule start (spots_by ByKey rules ns)
-first_same-numbers rules rule start ns =
-    let place = place_of start (spots_by ByKey rules ns) in
-    find-map (spot_by ByKey rules) (is_same rules rule) (drop place ns) ∙ ap (find (is_same rules rule)) (sym (drop-map (spot_by ByKey rules) place ns))
+module _ (f : ℕ → Spot) (ns new : List ℕ) where
+  pub rest-numbers : (t : Spot) → new ≡ drop (prefix_len (λ n. below (f n) t) ns) ns → map f new ≡ drop (place_of t (map f ns)) (map f ns)
+  rest-numbers t is =
+      ap (map f) is
+      ∙ sym (drop-map f (prefix_len (λ n. below (f n) t) ns) ns)
+      ∙ ap (λ n. drop n (map f ns)) (sym (place_of-map f t ns))
+
+  module _ (n : ℕ) (t : Spot) (at : t ≡ f n) where
+    its_place : prefix_len (λ m. below (f m) t) ns ≡ place_of (f n) (map f ns)
+    its_place = sym (place_of-map f t ns) ∙ ap (λ (s : Spot). place_of s (map f ns)) at
+
+    pub put-numbers : new ≡ insert ns (prefix_len (λ m. below (f m) t) ns) n → map f new ≡ put (f n) (map f ns)
+    put-numbers is =
+        ap (map f) is
+        ∙ map-insert f ns (prefix_len (λ m. below (f m) t) ns) n
+        ∙ ap (λ m. insert (map f ns) m (f n)) its_place
+        ∙ sym (put-insert (f n) (map f ns))
+
+    pub cut-numbers : new ≡ remove ns (prefix_len (λ m. below (f m) t) ns) → map f new ≡ cut (f n) (map f ns)
+    cut-numbers is =
+        ap (map f) is
+        ∙ map-remove f ns (prefix_len (λ m. below (f m) t) ns)
+        ∙ ap (λ m. remove (map f ns) m) its_place
+        ∙ sym (cut-remove (f n) (map f ns))
+
+-- the first number, and those after it
+pub first-is : {X : Type 0} (xs rest : List X) (x : X) → slice_get xs 0 ≡ Some x → rest ≡ drop 1 xs → xs ≡ x ∷ rest
+first-is [] rest x at is = absurd (none-some x at)
+first-is (y ∷ ys) rest x at is = λ i. same_Some y x at i ∷ sym is i
+
+pub none-first : {X : Type 0} (xs : List X) → slice_get xs 0 ≡ None → xs ≡ []
+none-first [] at = refl
+none-first (x ∷ xs) at = absurd (none-some x (sym at))
+
+-- the next of the spots, and those after it
+pub next-spots : (rules : List Rule) (rest new : List ℕ) (n : ℕ) (s : Spot) → slice_get rest 0 ≡ Some n → new ≡ drop 1 rest → s ≡ spot_by ByKey rules n
+    → spots_by ByKey rules rest ≡ s ∷ spots_by ByKey rules new
+next-spots rules rest new n s at is same = ap (spots_by ByKey rules) (first-is rest new n at is) ∙ ap (λ (x : Spot). x ∷ spots_by ByKey rules new) (sym same)

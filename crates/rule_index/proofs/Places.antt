@@ -1,12 +1,9 @@
 -- Places in sorted lists.
-use Rattle.std.proofs.Common.{◌≡◌, ℕ, zero, suc, ◌+◌, ◌<◌, ◌≤◌, Bool, true, false, cond, List, [], ◌∷◌, length, get_or, refl, ap, arith, inl, inr, nat_lt, drop}
+use Rattle.std.proofs.Common.{◌≡◌, ℕ, zero, suc, ◌+◌, ◌<◌, Bool, true, false, cond, List, [], ◌∷◌, length, get_or, refl, ap, arith, drop}
 use Rattle.std.specs.List.{insert, remove, AllByRecursion}
-use Rattle.std.specs.List.Sorted.{IsPartitionedBy}
-use Rattle.std.proofs.lemmas.Bool.{cases_Bool, ltb-true, ltb-false}
 use Rattle.rule_index.specs.declared.spot.Spot.{Spot}
 use Rattle.rule_index.specs.Spots.{below}
 use Rattle.rule_index.specs.Sorted.{Rises, place_of, put, cut}
-use Rattle.rule_index.proofs.Orders.{below-trans}
 
 pub each-at : {X : Type 0} (P : X → Type 0) (xs : List X) (j : ℕ) (d : X) → AllByRecursion P xs → j < length xs → P (get_or xs j d)
 each-at P [] j d e h = absurd (omega arith)
@@ -29,15 +26,6 @@ rises-at (x ∷ xs) i zero d r h k = absurd (omega arith)
 rises-at (x ∷ xs) zero (suc j) d r h k = each-at (λ y. below x y ≡ true) xs j d r.0 (omega arith)
 rises-at (x ∷ xs) (suc i) (suc j) d r h k = rises-at xs i j d r.1 (omega arith) (omega arith)
 
-same-or-less : (i j : ℕ) → i ≤ j → nat_lt i j ≡ false → i ≡ j
-same-or-less i j h k = let l = ltb-false i j k in omega (arith, l)
-
-pub parted : (t : Spot) (xs : List Spot) → Rises xs → IsPartitionedBy (λ y. below y t) xs
-parted t xs r i j d le lt h = elim (cases_Bool (nat_lt i j)) as (λ _. below (get_or xs i d) t ≡ true) [
-  | inl less ↦ below-trans (get_or xs i d) (get_or xs j d) t (rises-at xs i j d r (ltb-true i j less) lt) h
-  | inr not_less ↦ rw (same-or-less i j le not_less) h
-]
-
 one-add : (n : ℕ) → suc n ≡ 1 + n
 one-add n = omega arith
 
@@ -56,11 +44,3 @@ cut-remove s (x ∷ xs) = step (below x s) (place_of s xs) (cut-remove s xs)
     step : (b : Bool) (n : ℕ) → cut s xs ≡ remove xs n → cond b (x ∷ cut s xs) xs ≡ remove (x ∷ xs) (cond b (1 + n) 0)
     step true n e = rw (← one-add n) (ap (λ l. x ∷ l) e)
     step false n e = refl
-
-pub cut-none : (s : Spot) (xs : List Spot) → length xs ≤ place_of s xs → cut s xs ≡ xs
-cut-none s [] h = refl
-cut-none s (x ∷ xs) h = step (below x s) (place_of s xs) (λ k. cut-none s xs k) h
-  where
-    step : (b : Bool) (n : ℕ) → (length xs ≤ n → cut s xs ≡ xs) → suc (length xs) ≤ cond b (1 + n) 0 → cond b (x ∷ cut s xs) xs ≡ x ∷ xs
-    step true n e h = ap (λ l. x ∷ l) (e (omega arith))
-    step false n e h = absurd (omega arith)

@@ -7,6 +7,7 @@ use crate::sorted::{cut, place_of, put};
 use crate::spot::{Sorting, keyed_of, spot_by};
 use kernel_ledger::RuleStore;
 use kernel_model::FoundRule;
+use number_runs::Runs;
 use rule_match::{Packet, Rule};
 use std::alloc::{AllocError, Global};
 use std::marker::Model;
@@ -17,9 +18,9 @@ pub struct RuleIndex {
     /// All that arrived, in order; those that were taken out too. The number of a rule is its place here.
     rules: Vec<Rule>,
     /// The numbers of those that stand, by priority and arrival.
-    order: Vec<u32>,
+    order: Runs,
     /// The same, by priority, group, value and arrival.
-    keyed: Vec<u32>,
+    keyed: Runs,
 }
 
 impl Model for RuleIndex {
@@ -29,12 +30,11 @@ impl Model for RuleIndex {
     ghost Value = { IndexView };
 
     ghost view = { λ x. record {
-      list = listed_of x.rules.items x.order.items;
-      room = room_of (vec_len x.rules) (vec_capacity x.rules - vec_len x.rules)
-          (vec_capacity x.order - vec_len x.order) (vec_capacity x.keyed - vec_len x.keyed);
+      list = listed_of x.rules.items x.order.numbers;
+      room = room_of (vec_len x.rules) (vec_capacity x.rules - vec_len x.rules) x.order.room x.keyed.room;
     } };
 
-    ghost invariant = { λ x. IsIndexed x.rules.items x.order.items x.keyed.items };
+    ghost invariant = { λ x. IsIndexed x.rules.items x.order.numbers x.keyed.numbers };
 }
 
 impl RuleStore for RuleIndex {
@@ -45,8 +45,8 @@ impl RuleStore for RuleIndex {
     fn empty(alloc: Global) -> Self {
         RuleIndex {
             rules: Vec::new(alloc),
-            order: Vec::new(alloc),
-            keyed: Vec::new(alloc),
+            order: Runs::new(alloc),
+            keyed: Runs::new(alloc),
         }
     }
 
@@ -87,23 +87,17 @@ impl RuleStore for RuleIndex {
     }
 }
 
-fn number_at(list: &[u32], place: usize) -> Option<u32>
-    ensures { result ≡ slice_get list.now place }
-{
-    list.get(place).copied()
-}
-
 fn rule_of(rules: &[Rule], number: u32) -> Option<Rule>
     ensures { result ≡ slice_get rules.now number }
 {
     rules.get(number as usize).copied()
 }
 
-fn rule_in(rules: &[Rule], order: &[u32], keyed: &[u32], place: usize) -> Option<Rule>
-    requires { IsIndexed rules.now order.now keyed.now }
-    ensures { result ≡ slice_get (listed_of rules.now order.now) place }
+fn rule_in(rules: &[Rule], order: &Runs, keyed: &Runs, place: usize) -> Option<Rule>
+    requires { IsIndexed rules.now order.now.numbers keyed.now.numbers }
+    ensures { result ≡ slice_get (listed_of rules.now order.now.numbers) place }
 {
-    match number_at(order, place) {
+    match order.get(place) {
         Some(number) => rule_of(rules, number),
         None => None,
     }
@@ -111,15 +105,15 @@ fn rule_in(rules: &[Rule], order: &[u32], keyed: &[u32], place: usize) -> Option
 
 fn next_in(
     rules: &[Rule],
-    order: &[u32],
-    keyed: &[u32],
+    order: &Runs,
+    keyed: &Runs,
     packet: &Packet,
     from: usize,
 ) -> Option<FoundRule>
-    requires { IsIndexed rules.now order.now keyed.now }
-    ensures { result ≡ next_match (listed_of rules.now order.now) packet.now from }
+    requires { IsIndexed rules.now order.now.numbers keyed.now.numbers }
+    ensures { result ≡ next_match (listed_of rules.now order.now.numbers) packet.now from }
 {
-    let Some(number) = number_at(order, from) else {
+    let Some(number) = order.get(from) else {
         return None;
     };
     let first = spot_by(rules, Sorting::ByArrival, number);

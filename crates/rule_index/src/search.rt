@@ -7,8 +7,9 @@ ghost use Rattle.rule_index.specs.Sorted.{Rises, spots_by};
 ghost use Rattle.rule_index.specs.Search.{fits, better, least, is_past, is_number_of, first_same, AreKeyed};
 ghost use Rattle.rule_index.specs.declared.spot.Sorting.TheVariants.{ByKey};
 
-use crate::sorted::place_of;
+use crate::sorted::{rest_from, skip};
 use crate::spot::{Sorting, Spot, jump, spot_by};
+use number_runs::{Rest, Runs};
 use rule_match::{Packet, Rule, same_rule};
 
 // Whether the rule of the spot matches, and isn't before this place in the list.
@@ -58,11 +59,11 @@ fn is_past(found: Option<Spot>, spot: &Spot) -> bool
 }
 
 /// The first rule of the list that matches, from a place on.
-pub fn least(rules: &[Rule], keyed: &[u32], packet: &Packet, from: &Spot) -> Option<Spot>
-    requires rises { Rises (spots_by ByKey rules.now keyed.now) }
-    requires keys { AreKeyed rules.now (spots_by ByKey rules.now keyed.now) }
+pub fn least(rules: &[Rule], keyed: &Runs, packet: &Packet, from: &Spot) -> Option<Spot>
+    requires rises { Rises (spots_by ByKey rules.now keyed.now.numbers) }
+    requires keys { AreKeyed rules.now (spots_by ByKey rules.now keyed.now.numbers) }
     ensures { result ≡ least rules.now packet.now from.now None
-        (spots_by ByKey rules.now keyed.now) }
+        (spots_by ByKey rules.now keyed.now.numbers) }
 {
     let start = Spot {
         priority: from.priority,
@@ -70,21 +71,16 @@ pub fn least(rules: &[Rule], keyed: &[u32], packet: &Packet, from: &Spot) -> Opt
         value: 0,
         number: 0,
     };
-    let mut at = place_of(rules, Sorting::ByKey, keyed, &start);
+    let mut rest = rest_from(rules, Sorting::ByKey, keyed, &start);
     let mut found = None;
-    while at < keyed.len() {
-        let spot = spot_by(rules, Sorting::ByKey, keyed[at]);
+    while let Some(number) = rest.next() {
+        let spot = spot_by(rules, Sorting::ByKey, number);
         if is_past(found, &spot) {
             return found;
         }
         match jump(packet, &spot) {
-            Some(target) => {
-                at = at + 1 + place_of(rules, Sorting::ByKey, &keyed[at + 1..], &target);
-            }
-            None => {
-                found = better(rules, packet, from, found, &spot);
-                at += 1;
-            }
+            Some(target) => skip(rules, Sorting::ByKey, &mut rest, &target),
+            None => found = better(rules, packet, from, found, &spot),
         }
     }
     found
@@ -100,21 +96,23 @@ fn is_number_of(rules: &[Rule], rule: &Rule, number: u32) -> bool
 }
 
 // The first number whose rule is this one.
-fn find_same(rules: &[Rule], keyed: &[u32], rule: &Rule) -> Option<u32>
-    ensures { result ≡ find (is_number_of rules.now rule.now) keyed.now }
+fn find_same(rules: &[Rule], rest: &mut Rest<'_>, rule: &Rule) -> Option<u32>
+    ensures { result ≡ find (is_number_of rules.now rule.now) rest.old }
 {
-    keyed
-        .iter()
-        .copied()
-        .find(|number| is_number_of(rules, rule, *number))
+    while let Some(number) = rest.next() {
+        if is_number_of(rules, rule, number) {
+            return Some(number);
+        }
+    }
+    None
 }
 
 /// The first number of the list whose rule is this one, looked for from a spot on.
-pub fn first_same(rules: &[Rule], keyed: &[u32], rule: &Rule, start: &Spot) -> Option<u32>
-    requires rises { Rises (spots_by ByKey rules.now keyed.now) }
+pub fn first_same(rules: &[Rule], keyed: &Runs, rule: &Rule, start: &Spot) -> Option<u32>
+    requires rises { Rises (spots_by ByKey rules.now keyed.now.numbers) }
     ensures { option_map (spot_by ByKey rules.now) result ≡
-        first_same rules.now rule.now start.now (spots_by ByKey rules.now keyed.now) }
+        first_same rules.now rule.now start.now (spots_by ByKey rules.now keyed.now.numbers) }
 {
-    let place = place_of(rules, Sorting::ByKey, keyed, start);
-    find_same(rules, &keyed[place..], rule)
+    let mut rest = rest_from(rules, Sorting::ByKey, keyed, start);
+    find_same(rules, &mut rest, rule)
 }

@@ -9,28 +9,28 @@ use Rattle.rule_index.proofs.index.next_in.Goals as goal
 
 pub returns-in_default : goal.returns-in_default
 returns-in_default c =
-    sym (next-past c.args.rules.now (spots_by ByArrival c.args.rules.now c.args.order.now) c.args.packet.now c.args.from
-    (past-map (spot_by ByArrival c.args.rules.now) c.args.order.now c.args.from (sym c.number_at.ensures ∙ c.in_default.is)))
+    sym (next-past c.args.rules.now (spots_by ByArrival c.args.rules.now c.args.order.now.numbers) c.args.packet.now c.args.from
+    (past-map (spot_by ByArrival c.args.rules.now) c.args.order.now.numbers c.args.from (sym c.get.ensures ∙ c.in_default.is)))
 
 pub least-requires-clause-keys : goal.least-requires-clause-keys
-least-requires-clause-keys c = are-keyed c.args.rules.now (spots_by ByKey c.args.rules.now c.args.keyed.now) c.requires.stand
+least-requires-clause-keys c = are-keyed c.args.rules.now (spots_by ByKey c.args.rules.now c.args.keyed.now.numbers) c.requires.stand
 
 pub returns-in_default-least : goal.returns-in_default-least
 returns-in_default-least c =
-    let there = there-map (spot_by ByArrival c.args.rules.now) c.args.order.now c.args.from c.in-Some.number (sym c.number_at.ensures ∙ c.in-Some.is) ∙ ap Some (sym c.spot_by-first.ensures) in
-    sym (ends-none c.args.rules.now (spots_by ByArrival c.args.rules.now c.args.order.now) (spots_by ByKey c.args.rules.now c.args.keyed.now) c.requires c.args.packet.now c.args.from c.spot_by-first.result there
+    let there = there-map (spot_by ByArrival c.args.rules.now) c.args.order.now.numbers c.args.from c.in-Some.number (sym c.get.ensures ∙ c.in-Some.is) ∙ ap Some (sym c.spot_by-first.ensures) in
+    sym (ends-none c.args.rules.now (spots_by ByArrival c.args.rules.now c.args.order.now.numbers) (spots_by ByKey c.args.rules.now c.args.keyed.now.numbers) c.requires c.args.packet.now c.args.from c.spot_by-first.result there
     (sym c.least.ensures ∙ c.in_default-least.is))
 
 pub returns-in-Some-rule_of : goal.returns-in-Some-rule_of
 returns-in-Some-rule_of c =
-    let there = there-map (spot_by ByArrival c.args.rules.now) c.args.order.now c.args.from c.in-Some.number (sym c.number_at.ensures ∙ c.in-Some.is) ∙ ap Some (sym c.spot_by-first.ensures) in
-    sym (ends-some c.args.rules.now (spots_by ByArrival c.args.rules.now c.args.order.now) (spots_by ByKey c.args.rules.now c.args.keyed.now) c.requires c.args.packet.now c.args.from c.spot_by-first.result there
+    let there = there-map (spot_by ByArrival c.args.rules.now) c.args.order.now.numbers c.args.from c.in-Some.number (sym c.get.ensures ∙ c.in-Some.is) ∙ ap Some (sym c.spot_by-first.ensures) in
+    sym (ends-some c.args.rules.now (spots_by ByArrival c.args.rules.now c.args.order.now.numbers) (spots_by ByKey c.args.rules.now c.args.keyed.now.numbers) c.requires c.args.packet.now c.args.from c.spot_by-first.result there
     c.in-Some-least.spot c.in-Some-rule_of.rule c.place_of-place.result (sym c.least.ensures ∙ c.in-Some-least.is)
-    (c.place_of-place.ensures.place ∙ ap (λ (s : Spot). place_of s (spots_by ByArrival c.args.rules.now c.args.order.now)) c.flat.ensures)
+    (c.place_of-place.ensures ∙ ap (λ (s : Spot). place_of s (spots_by ByArrival c.args.rules.now c.args.order.now.numbers)) c.flat.ensures)
     (sym c.rule_of.ensures ∙ c.in-Some-rule_of.is))
 
 pub returns-in-None : goal.returns-in-None
 returns-in-None c =
-    let there = there-map (spot_by ByArrival c.args.rules.now) c.args.order.now c.args.from c.in-Some.number (sym c.number_at.ensures ∙ c.in-Some.is) ∙ ap Some (sym c.spot_by-first.ensures) in
-    absurd (ends-never c.args.rules.now (spots_by ByArrival c.args.rules.now c.args.order.now) (spots_by ByKey c.args.rules.now c.args.keyed.now) c.requires c.args.packet.now c.args.from c.spot_by-first.result there
+    let there = there-map (spot_by ByArrival c.args.rules.now) c.args.order.now.numbers c.args.from c.in-Some.number (sym c.get.ensures ∙ c.in-Some.is) ∙ ap Some (sym c.spot_by-first.ensures) in
+    absurd (ends-never c.args.rules.now (spots_by ByArrival c.args.rules.now c.args.order.now.numbers) (spots_by ByKey c.args.rules.now c.args.keyed.now.numbers) c.requires c.args.packet.now c.args.from c.spot_by-first.result there
     c.in-Some-least.spot (sym c.least.ensures ∙ c.in-Some-least.is) (sym c.rule_of.ensures ∙ c.in-None.is))

@@ -9,10 +9,10 @@ use Rattle.rule_index.proofs.index.rule_in.Goals as goal
 pub returns-in-Some : goal.returns-in-Some
 returns-in-Some c =
     c.rule_of.ensures
-    ∙ sym (list-some c.args.rules.now (spots_by ByArrival c.args.rules.now c.args.order.now) (spots_by ByKey c.args.rules.now c.args.keyed.now) c.requires c.args.place (spot_by ByArrival c.args.rules.now c.in-Some.number)
-    (there-map (spot_by ByArrival c.args.rules.now) c.args.order.now c.args.place c.in-Some.number (sym c.number_at.ensures ∙ c.in-Some.is)))
+    ∙ sym (list-some c.args.rules.now (spots_by ByArrival c.args.rules.now c.args.order.now.numbers) (spots_by ByKey c.args.rules.now c.args.keyed.now.numbers) c.requires c.args.place (spot_by ByArrival c.args.rules.now c.in-Some.number)
+    (there-map (spot_by ByArrival c.args.rules.now) c.args.order.now.numbers c.args.place c.in-Some.number (sym c.get.ensures ∙ c.in-Some.is)))
 
 pub returns-in-None : goal.returns-in-None
 returns-in-None c =
-    sym (list-none c.args.rules.now (spots_by ByArrival c.args.rules.now c.args.order.now) c.args.place
-    (past-map (spot_by ByArrival c.args.rules.now) c.args.order.now c.args.place (sym c.number_at.ensures ∙ c.in-None.is)))
+    sym (list-none c.args.rules.now (spots_by ByArrival c.args.rules.now c.args.order.now.numbers) c.args.place
+    (past-map (spot_by ByArrival c.args.rules.now) c.args.order.now.numbers c.args.place (sym c.get.ensures ∙ c.in-None.is)))

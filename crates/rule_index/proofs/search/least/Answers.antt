@@ -1,55 +1,60 @@
-use Rattle.std.proofs.Common.{◌<◌, ◌+◌, ◌∙◌, length, sym, ap, drop, length-drop, arith}
-use Rattle.std.proofs.lemmas.List.{drop-map}
+use Rattle.std.proofs.Common.{◌∙◌, refl, sym, ap, subst, length, arith, None}
+use Rattle.std.proofs.lemmas.List.{length-map, length-drop}
+use Rattle.rule_index.specs.declared.spot.Spot.{Spot}
 use Rattle.rule_index.specs.declared.spot.Sorting.TheVariants.{ByKey}
 use Rattle.rule_index.specs.Spots.{spot_by}
-use Rattle.rule_index.specs.Sorted.{spots_by, place_of}
-use Rattle.rule_index.specs.Search.{least}
-use Rattle.rule_index.proofs.Places.{rises-drop}
-use Rattle.rule_index.proofs.Numbers.{spot-there}
-use Rattle.rule_index.proofs.Leasts.{least-start, least-ended, least-next, least-jump, rest_is}
+use Rattle.rule_index.specs.Sorted.{Rises, spots_by, place_of}
+use Rattle.rule_index.specs.Search.{least, AreKeyed, IsKeyed}
+use Rattle.rule_index.proofs.Places.{each-drop, rises-drop}
+use Rattle.rule_index.proofs.Numbers.{next-spots}
+use Rattle.rule_index.proofs.Leasts.{least-start, ended, jumps}
 use Rattle.rule_index.proofs.search.least.Goals as goal
 
-pub loop-at-init : goal.loop-at-init
-loop-at-init c = record {
-  within = c.place_of-at.ensures.within;
-  rest = least-start c.args.rules.now c.args.packet.now c.args.from.now _ (spots_by ByKey c.args.rules.now c.args.keyed.now) c.place_of-at.result c.place_of-at.ensures.place;
-}
+pub loop-number-init : goal.loop-number-init
+loop-number-init c =
+    let spots = spots_by ByKey c.args.rules.now c.args.keyed.now.numbers in
+    let start : Spot = record { priority = c.args.from.now.priority; group = 0; value = 0; number = 0 } in
+    let is = c.rest_from-rest.ensures in
+    record {
+      rises = subst Rises (sym is) (rises-drop (place_of start spots) spots c.requires.rises);
+      keys = subst (AreKeyed c.args.rules.now) (sym is) (each-drop (IsKeyed c.args.rules.now) (place_of start spots) spots c.requires.keys);
+      least =
+          ap (least c.args.rules.now c.args.packet.now c.args.from.now None) is
+          ∙ least-start c.args.rules.now c.args.packet.now c.args.from.now None spots (place_of start spots) refl;
+    }
 
 pub returns-then-is_past : goal.returns-then-is_past
 returns-then-is_past c =
-    let spots = spots_by ByKey c.args.rules.now c.args.keyed.now in
-    let within : c.loop-at.at < length c.args.keyed.now = omega arith in
-    let there = spot-there c.args.rules.now ByKey c.args.keyed.now c.loop-at.at c.spot_by-spot.result within c.spot_by-spot.ensures in
-    sym (least-ended c.args.rules.now c.args.packet.now c.args.from.now (spots_by ByKey c.args.rules.now c.args.keyed.now) c.loop-at.at c.spot_by-spot.result there c.loop-at.found c.requires.rises (sym c.is_past.ensures ∙ c.if-is_past.true))
-    ∙ c.loop-at.invariant.rest
+    let next = next-spots c.args.rules.now c.loop-number.rest c.next.new.self c.in-Some.number c.spot_by-spot.result (sym c.next.ensures.number ∙ c.in-Some.is) c.next.ensures.rest c.spot_by-spot.ensures in
+    sym (ap (least c.args.rules.now c.args.packet.now c.args.from.now c.loop-number.found) next
+    ∙ ended c.args.rules.now c.args.packet.now c.args.from.now c.loop-number.found c.spot_by-spot.result (spots_by ByKey c.args.rules.now c.next.new.self) (sym c.is_past.ensures ∙ c.if-is_past.true)
+    (subst Rises next c.loop-number.invariant.rises))
+    ∙ c.loop-number.invariant.least
 
-pub place_of-requires : goal.place_of-requires
-place_of-requires c =
-    rw (rest_is (c.loop-at.at + 1) c.args.keyed.now)
-    (rw (drop-map (spot_by ByKey c.args.rules.now) (c.loop-at.at + 1) c.args.keyed.now) at (rises-drop (c.loop-at.at + 1) (spots_by ByKey c.args.rules.now c.args.keyed.now) c.requires.rises))
-
-pub loop-at-preserved-in-Some : goal.loop-at-preserved-in-Some
-loop-at-preserved-in-Some c =
-    let within : c.loop-at.at < length c.args.keyed.now = omega arith in
-    let there = spot-there c.args.rules.now ByKey c.args.keyed.now c.loop-at.at c.spot_by-spot.result within c.spot_by-spot.ensures in
+pub loop-number-preserved-in-Some-jump : goal.loop-number-preserved-in-Some-jump
+loop-number-preserved-in-Some-jump c =
+    let next = next-spots c.args.rules.now c.loop-number.rest c.next.new.self c.in-Some.number c.spot_by-spot.result (sym c.next.ensures.number ∙ c.in-Some.is) c.next.ensures.rest c.spot_by-spot.ensures in
+    let spots = spots_by ByKey c.args.rules.now c.next.new.self in
+    let rises = subst Rises next c.loop-number.invariant.rises in
+    let keys = subst (AreKeyed c.args.rules.now) next c.loop-number.invariant.keys in
+    let is = c.skip.ensures in
     record {
-      within = let w = rw (rest_is (c.loop-at.at + 1) c.args.keyed.now) at c.place_of.ensures.within in omega (arith, w, length-drop (c.loop-at.at + 1) c.args.keyed.now);
-      rest =
-          least-jump c.args.rules.now c.args.packet.now c.args.from.now (spots_by ByKey c.args.rules.now c.args.keyed.now) c.loop-at.at c.spot_by-spot.result there c.loop-at.found c.in-Some.target c.place_of.result
-          c.requires.rises c.requires.keys (sym c.jump.ensures ∙ c.in-Some.is)
-          (rw (rest_is (c.loop-at.at + 1) c.args.keyed.now) at c.place_of.ensures.place
-          ∙ ap (place_of c.in-Some.target) (sym (drop-map (spot_by ByKey c.args.rules.now) (c.loop-at.at + 1) c.args.keyed.now)))
-          ∙ c.loop-at.invariant.rest;
+      rises = subst Rises (sym is) (rises-drop (place_of c.in-Some-jump.target spots) spots rises.1);
+      keys = subst (AreKeyed c.args.rules.now) (sym is) (each-drop (IsKeyed c.args.rules.now) (place_of c.in-Some-jump.target spots) spots keys.1);
+      least =
+          ap (least c.args.rules.now c.args.packet.now c.args.from.now c.loop-number.found) is
+          ∙ sym (jumps c.args.rules.now c.args.packet.now c.args.from.now c.loop-number.found c.spot_by-spot.result c.in-Some-jump.target spots (sym c.jump.ensures ∙ c.in-Some-jump.is) rises keys)
+          ∙ sym (ap (least c.args.rules.now c.args.packet.now c.args.from.now c.loop-number.found) next)
+          ∙ c.loop-number.invariant.least;
     }
 
-pub loop-at-preserved : goal.loop-at-preserved
-loop-at-preserved c =
-    let within : c.loop-at.at < length c.args.keyed.now = omega arith in
-    let there = spot-there c.args.rules.now ByKey c.args.keyed.now c.loop-at.at c.spot_by-spot.result within c.spot_by-spot.ensures in
-    record {
-      within = omega arith;
-      rest =
-          ap (λ o. least c.args.rules.now c.args.packet.now c.args.from.now o (drop (c.loop-at.at + 1) (spots_by ByKey c.args.rules.now c.args.keyed.now))) c.better-found.ensures
-          ∙ least-next c.args.rules.now c.args.packet.now c.args.from.now (spots_by ByKey c.args.rules.now c.args.keyed.now) c.loop-at.at c.spot_by-spot.result there c.loop-at.found
-          ∙ c.loop-at.invariant.rest;
-    }
+pub loop-number-smaller-in-Some-jump : goal.loop-number-smaller-in-Some-jump
+loop-number-smaller-in-Some-jump c =
+    let next = next-spots c.args.rules.now c.loop-number.rest c.next.new.self c.in-Some.number c.spot_by-spot.result (sym c.next.ensures.number ∙ c.in-Some.is) c.next.ensures.rest c.spot_by-spot.ensures in
+    let f = spot_by ByKey c.args.rules.now in
+    let spots = spots_by ByKey c.args.rules.now c.next.new.self in
+    let shorter = ap length c.skip.ensures ∙ length-drop (place_of c.in-Some-jump.target spots) spots in
+    let one = ap length next in
+    let left = length-map c.skip.new.rest f in
+    let all = length-map c.loop-number.rest f in
+    omega (arith, shorter, one, left, all)

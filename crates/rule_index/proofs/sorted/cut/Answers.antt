@@ -1,25 +1,10 @@
-use Rattle.std.proofs.Common.{◌≡◌, ◌≤◌, ◌∙◌, sym, ap, map, arith, length}
-use Rattle.std.specs.List.{remove}
-use Rattle.std.proofs.lemmas.List.{length-map}
-use Rattle.rule_index.specs.declared.spot.Spot.{Spot}
 use Rattle.rule_index.specs.Spots.{spot_by}
-use Rattle.rule_index.specs.Sorted.{place_of, spots_by}
-use Rattle.rule_index.proofs.Numbers.{map-remove}
-use Rattle.rule_index.proofs.Places.{cut-remove, cut-none}
+use Rattle.rule_index.proofs.Numbers.{cut-numbers, parted-rises}
 use Rattle.rule_index.proofs.sorted.cut.Goals as goal
 
-pub returns-then-place-len-clause-items : goal.returns-then-place-len-clause-items
-returns-then-place-len-clause-items c =
-    let spots = spots_by c.args.sorting c.args.rules.now c.args.list.now.items in
-    ap (map (spot_by c.args.sorting c.args.rules.now)) c.remove.ensures.items
-    ∙ map-remove (spot_by c.args.sorting c.args.rules.now) c.args.list.now.items c.place_of-place.result
-    ∙ ap (λ n. remove spots n) (rw c.deref.ensures.value at c.place_of-place.ensures.place ∙ ap (λ (s : Spot). place_of s spots) c.spot_by.ensures)
-    ∙ sym (cut-remove (spot_by c.args.sorting c.args.rules.now c.args.number) spots)
+pub cut-requires : goal.cut-requires
+cut-requires c = parted-rises (spot_by c.args.sorting c.args.rules.now) c.spot_by-target.result c.args.list.now.numbers c.requires.rises
 
-pub returns-else-place-len-clause-items : goal.returns-else-place-len-clause-items
-returns-else-place-len-clause-items c =
-    let spots = spots_by c.args.sorting c.args.rules.now c.args.list.now.items in
-    let is : c.place_of-place.result ≡ place_of (spot_by c.args.sorting c.args.rules.now c.args.number) spots = rw c.deref.ensures.value at c.place_of-place.ensures.place ∙ ap (λ (s : Spot). place_of s spots) c.spot_by.ensures in
-    let same = length-map c.args.list.now.items (spot_by c.args.sorting c.args.rules.now) in
-    let past : length spots ≤ place_of (spot_by c.args.sorting c.args.rules.now c.args.number) spots = omega (arith, is, same) in
-    sym (cut-none (spot_by c.args.sorting c.args.rules.now c.args.number) spots past)
+pub returns-clause-items : goal.returns-clause-items
+returns-clause-items c =
+    cut-numbers (spot_by c.args.sorting c.args.rules.now) c.args.list.now.numbers c.cut.new.self.numbers c.args.number c.spot_by-target.result c.spot_by-target.ensures c.cut.ensures.numbers

@@ -11,11 +11,11 @@ use Rattle.rule_index.proofs.index.RuleIndexRuleStore.cut.Goals as goal
 
 -- what the two lists hold
 joined : (c : After-cut-in-Some)
-    → IsIndexed c.self.inside.rules.items c.cut.new.list.items c.cut-in-Some.new.list.items
-    × (listed_of c.self.inside.rules.items c.cut.new.list.items ≡ without rule_kind c.args.rule.now (listed_of c.self.inside.rules.items c.self.inside.order.items))
+    → IsIndexed c.self.inside.rules.items c.cut.new.list.numbers c.cut-in-Some.new.list.numbers
+    × (listed_of c.self.inside.rules.items c.cut.new.list.numbers ≡ without rule_kind c.args.rule.now (listed_of c.self.inside.rules.items c.self.inside.order.numbers))
 joined c =
-    let found = rw (c.deref.ensures.value, c.deref-2.ensures.value, c.keyed_of.ensures) at c.first_same.ensures in
-    cut_out c.self.inside.rules.items c.self.inside.order.items c.self.inside.keyed.items c.self.invariant c.args.rule.now c.in-Some.number c.cut.new.list.items c.cut-in-Some.new.list.items
+    let found = rw (c.deref.ensures.value, c.keyed_of.ensures) at c.first_same.ensures in
+    cut_out c.self.inside.rules.items c.self.inside.order.numbers c.self.inside.keyed.numbers c.self.invariant c.args.rule.now c.in-Some.number c.cut.new.list.numbers c.cut-in-Some.new.list.numbers
     (sym found ∙ ap (option_map (spot_by ByKey c.self.inside.rules.items)) c.in-Some.is)
     (rw c.deref-in-Some.ensures.value at c.cut.ensures.items) (rw c.deref-in-Some-2.ensures.value at c.cut-in-Some.ensures.items)
 
@@ -27,7 +27,7 @@ returns-in-Some-clause-rules c = (joined c).1 ∙ ap (λ (v : IndexView). withou
 
 pub returns-in_default-clause-rules : goal.returns-in_default-clause-rules
 returns-in_default-clause-rules c =
-    let found = rw (c.deref.ensures.value, c.deref-2.ensures.value, c.keyed_of.ensures) at c.first_same.ensures in
-    let same = none_out c.self.inside.rules.items c.self.inside.order.items c.self.inside.keyed.items c.self.invariant c.args.rule.now
+    let found = rw (c.deref.ensures.value, c.keyed_of.ensures) at c.first_same.ensures in
+    let same = none_out c.self.inside.rules.items c.self.inside.order.numbers c.self.inside.keyed.numbers c.self.invariant c.args.rule.now
     (sym found ∙ ap (option_map (spot_by ByKey c.self.inside.rules.items)) c.in_default.is) in
     ap (λ (v : IndexView). v.list) (sym c.self.view_is) ∙ sym same ∙ ap (λ (v : IndexView). without rule_kind c.args.rule.now v.list) c.self.view_is

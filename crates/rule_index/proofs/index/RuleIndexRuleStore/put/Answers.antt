@@ -11,28 +11,28 @@ put-requires-clause-rises c =
     let room = ap (λ (v : IndexView). v.room) c.self.view_is in
     let less : vec_len c.self.inside.rules < vec_capacity c.self.inside.rules = omega (arith, room, c.requires) in
     let fits : is_ok c.push.result ≡ true = c.push.ensures.succeeds less in
-    order_still_rises c.self.inside.rules.items c.self.inside.order.items c.self.inside.keyed.items c.self.invariant c.push.new.self.items c.deref.result.now c.args.rule.now (rw fits at c.push.ensures.items) c.deref.ensures.value
+    order_still_rises c.self.inside.rules.items c.self.inside.order.numbers c.self.inside.keyed.numbers c.self.invariant c.push.new.self.items c.deref.result.now c.args.rule.now (rw fits at c.push.ensures.items) c.deref.ensures.value
 
 pub put-requires-2-clause-rises : goal.put-requires-2-clause-rises
 put-requires-2-clause-rises c =
     let room = ap (λ (v : IndexView). v.room) c.self.view_is in
     let less : vec_len c.self.inside.rules < vec_capacity c.self.inside.rules = omega (arith, room, c.requires) in
     let fits : is_ok c.push.result ≡ true = c.push.ensures.succeeds less in
-    keyed_still_rises c.self.inside.rules.items c.self.inside.order.items c.self.inside.keyed.items c.self.invariant c.push.new.self.items c.deref-2.result.now c.args.rule.now (rw fits at c.push.ensures.items) c.deref-2.ensures.value
+    keyed_still_rises c.self.inside.rules.items c.self.inside.order.numbers c.self.inside.keyed.numbers c.self.invariant c.push.new.self.items c.deref-2.result.now c.args.rule.now (rw fits at c.push.ensures.items) c.deref-2.ensures.value
 
 -- what the three lists hold
 joined : (c : After-put-2)
-    → IsIndexed c.push.new.self.items c.put.new.list.items c.put-2.new.list.items
-    × (listed_of c.push.new.self.items c.put.new.list.items ≡ placed rule_kind c.args.rule.now (listed_of c.self.inside.rules.items c.self.inside.order.items))
+    → IsIndexed c.push.new.self.items c.put.new.list.numbers c.put-2.new.list.numbers
+    × (listed_of c.push.new.self.items c.put.new.list.numbers ≡ placed rule_kind c.args.rule.now (listed_of c.self.inside.rules.items c.self.inside.order.numbers))
 joined c =
     let room = ap (λ (v : IndexView). v.room) c.self.view_is in
     let less : vec_len c.self.inside.rules < vec_capacity c.self.inside.rules = omega (arith, room, c.requires) in
     let fits : is_ok c.push.result ≡ true = c.push.ensures.succeeds less in
     let last : c.len-number.result ≡ length c.self.inside.rules.items = c.len-number.ensures ∙ c.self.inside.rules.ok.0 in
     let more = rw fits at c.push.ensures.items in
-    put_in c.self.inside.rules.items c.self.inside.order.items c.self.inside.keyed.items c.self.invariant c.push.new.self.items c.args.rule.now c.put.new.list.items c.put-2.new.list.items more
-    (order_put c.self.inside.rules.items c.self.inside.order.items c.self.inside.keyed.items c.self.invariant c.push.new.self.items c.deref.result.now c.args.rule.now more c.deref.ensures.value c.len-number.result c.put.new.list.items last c.put.ensures.items)
-    (keyed_put c.self.inside.rules.items c.self.inside.order.items c.self.inside.keyed.items c.self.invariant c.push.new.self.items c.deref-2.result.now c.args.rule.now more c.deref-2.ensures.value c.len-number.result c.put-2.new.list.items last c.put-2.ensures.items)
+    put_in c.self.inside.rules.items c.self.inside.order.numbers c.self.inside.keyed.numbers c.self.invariant c.push.new.self.items c.args.rule.now c.put.new.list.numbers c.put-2.new.list.numbers more
+    (order_put c.self.inside.rules.items c.self.inside.order.numbers c.self.inside.keyed.numbers c.self.invariant c.push.new.self.items c.deref.result.now c.args.rule.now more c.deref.ensures.value c.len-number.result c.put.new.list.numbers last c.put.ensures.items)
+    (keyed_put c.self.inside.rules.items c.self.inside.order.numbers c.self.inside.keyed.numbers c.self.invariant c.push.new.self.items c.deref-2.result.now c.args.rule.now more c.deref-2.ensures.value c.len-number.result c.put-2.new.list.numbers last c.put-2.ensures.items)
 
 pub invariant_of-self : goal.invariant_of-self
 invariant_of-self c = (joined c).0

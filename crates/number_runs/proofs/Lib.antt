@@ -1,0 +1,4 @@
+pub mod Lists
+pub mod Heads
+pub mod Flat
+pub mod Edits
