@@ -4,7 +4,6 @@ use kernel_model::Kernel;
 use netd_top::{Status, Stop};
 use prefixes::Family;
 use sim_kernel::SimKernel;
-use std::alloc::{AllocError, Global};
 use std::test::Fail;
 
 const TWO: &[u8] = b"lockdown add 0-9\nlockdown remove 0-9\n";
@@ -13,10 +12,6 @@ const TWO_ANSWERS: &[u8] = b"1: done\n2: done\n";
 
 /// The bytes of the first line, with its line feed.
 const FIRST_LINE: u64 = 17;
-
-fn kernel(alloc: Global) -> Result<SimKernel, AllocError> {
-    SimKernel::new(alloc, Vec::new(alloc), Vec::new(alloc))
-}
 
 // Whether a range is locked down: then its rule of this priority is there.
 fn is_locked_down<K: Kernel>(kernel: &K) -> bool {
@@ -40,8 +35,9 @@ fn pieces_of_a_phone_change_nothing(rt: HostRuntime) -> Result<(), Fail> {
                 fail_read: &[],
                 fail_write: &[],
             };
-            let mut kernel = kernel(rt.alloc())?;
-            let (ended, written) = run_over(rt.alloc(), PHONE, &streams, &mut kernel)?;
+            let alloc = rt.alloc();
+            let mut kernel = SimKernel::new(alloc, Vec::new(alloc), Vec::new(alloc))?;
+            let (ended, written) = run_over(alloc, PHONE, &streams, &mut kernel)?;
             assert!(rt; ended.status() == Status::Finished);
             assert!(rt; written.as_slice() == PHONE_ANSWERS);
         }
@@ -59,8 +55,9 @@ fn each_read_fails_in_turn(rt: HostRuntime) -> Result<(), Fail> {
             fail_read: &[number],
             fail_write: &[],
         };
-        let mut kernel = kernel(rt.alloc())?;
-        let (ended, written) = run_over(rt.alloc(), TWO, &streams, &mut kernel)?;
+        let alloc = rt.alloc();
+        let mut kernel = SimKernel::new(alloc, Vec::new(alloc), Vec::new(alloc))?;
+        let (ended, written) = run_over(alloc, TWO, &streams, &mut kernel)?;
         let whole = number > FIRST_LINE;
         assert!(rt; ended.status() == Status::Stopped(Stop::ReadFault));
         assert!(rt;
@@ -86,8 +83,9 @@ fn each_write_fails_in_turn(rt: HostRuntime) -> Result<(), Fail> {
             fail_read: &[],
             fail_write: &[before as u64 + 1],
         };
-        let mut kernel = kernel(rt.alloc())?;
-        let (ended, written) = run_over(rt.alloc(), TWO, &streams, &mut kernel)?;
+        let alloc = rt.alloc();
+        let mut kernel = SimKernel::new(alloc, Vec::new(alloc), Vec::new(alloc))?;
+        let (ended, written) = run_over(alloc, TWO, &streams, &mut kernel)?;
         assert!(rt; ended.status() == Status::Stopped(Stop::WriteFault));
         assert!(rt; written.as_slice() == &TWO_ANSWERS[..before]);
     }
