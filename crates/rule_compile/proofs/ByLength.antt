@@ -1,15 +1,15 @@
 -- A stable sort by length puts the shortest prefix first, and routes of one length in the order in which they were added.
-use Rattle.std.proofs.Common.{◌≡◌, ◌∙◌, ◌==◌, ℕ, zero, suc, ◌+◌, ◌<◌, ◌≤◌, Bool, cond, List, [], ◌∷◌, ◌++◌, length, get_or, filter, nat_cmp, is_lt, refl, sym, ap, ap₂, subst, inl, inr, arith, suc-le-suc, zero-le}
+use Rattle.std.proofs.Common.{◌≡◌, ◌∙◌, ◌==◌, ℕ, zero, suc, ◌+◌, ◌<◌, ◌≤◌, List, [], ◌∷◌, ◌++◌, length, get_or, nat_cmp, refl, sym, ap, subst, inl, inr, arith, suc-le-suc, zero-le}
 use Rattle.std.specs.Prelude.{flat_map}
-use Rattle.std.specs.List.Sorted.{ties, IsNonDecreasingBy, IsStableByKey}
+use Rattle.std.specs.List.Sorted.{IsNonDecreasingBy, IsStableByKey}
 use Rattle.std.proofs.lemmas.Bool.{cases_Bool, false≢true, eqb-true, eq-eqb}
-use Rattle.std.proofs.lemmas.Bool.Decides.{nat_tests}
 use Rattle.prefixes.specs.Addr.{width_of}
 use Rattle.prefixes.specs.declared.route.Route.{Route}
 use Rattle.policy_state.specs.Rows.{numbers_from}
 use Rattle.policy_state.proofs.Owners.{Has}
 use Rattle.rule_compile.specs.Asked.{of_length, shortest_first}
 use Rattle.rule_compile.proofs.Leaving.{width-most}
+use Rattle.rule_compile.proofs.StableKeys.{same-keyed}
 
 abbrev pub length_of : Route → ℕ
 length_of r = r.prefix.len
@@ -75,37 +75,6 @@ risen-is (r ∷ rs) h =
     let widest : width_of r.prefix.base ≤ 128 = width-most r.prefix.base in
     ap (λ (qs : List Route). r ∷ qs) (risen-is rs h.1) ∙ sym (comes-first 0 129 r rs (omega arith) (omega (arith, fits, widest)) h.0)
 
--- what ties with a route has its length
-
-same-test : (m n : ℕ) → ties (λ x y. is_lt (nat_cmp x y)) m n ≡ (n == m)
-same-test m n = grind (arith, nat_tests)
-
-ties-at : (x : Route) (rs : List Route) → filter (ties (λ a b. is_lt (nat_cmp (length_of a) (length_of b))) x) rs ≡ of_length rs (length_of x)
-ties-at x [] = refl
-ties-at x (r ∷ rs) = ap₂ (λ (b : Bool) (qs : List Route). cond b (r ∷ qs) qs) (same-test (length_of x) (length_of r)) (ties-at x rs)
-
-first-length : (n : ℕ) (rs : List Route) (r : Route) (qs : List Route) → of_length rs n ≡ r ∷ qs → length_of r ≡ n
-first-length n [] r qs is = cc
-first-length n (x ∷ rs) r qs is = elim (cases_Bool (length_of x == n)) [
-  | inl same ↦ let shown : x ∷ of_length rs n ≡ r ∷ qs = rw same at is in let first : x ≡ r = cc in sym (ap length_of first) ∙ eqb-true (length_of x) n same
-  | inr other ↦ first-length n rs r qs (rw other at is)
-]
-
-same-lengths : (xs ys : List Route) → IsStableByKey length_of nat_cmp xs ys → (n : ℕ) → of_length ys n ≡ of_length xs n
-same-lengths xs ys stable n = by (of_length xs n) (of_length ys n) refl refl
-  where
-    at : (r : Route) → length_of r ≡ n → of_length ys n ≡ of_length xs n
-    at r is = subst (λ m. of_length ys m ≡ of_length xs m) is (sym (ties-at r ys) ∙ (stable r ∙ ties-at r xs))
-
-    by : (ps qs : List Route) → of_length xs n ≡ ps → of_length ys n ≡ qs → of_length ys n ≡ of_length xs n
-    by [] [] one other = other ∙ sym one
-    by (r ∷ ps) qs one other = at r (first-length n xs r ps one)
-    by [] (r ∷ qs) one other = at r (first-length n ys r qs other)
-
-same-parts : (f g : ℕ → List Route) (numbers : List ℕ) → ((n : ℕ) → f n ≡ g n) → flat_map f numbers ≡ flat_map g numbers
-same-parts f g [] same = refl
-same-parts f g (n ∷ numbers) same = ap₂ (λ (one others : List Route). one ++ others) (same n) (same-parts f g numbers same)
-
 pub sorted-by_length : (xs ys : List Route) → IsNonDecreasingBy length_of ys → IsStableByKey length_of nat_cmp xs ys → ys ≡ shortest_first xs
 unfolding shortest_first
-sorted-by_length xs ys sorted stable = risen-is ys (rise ys sorted) ∙ same-parts (of_length ys) (of_length xs) (numbers_from 0 129) (same-lengths xs ys stable)
+sorted-by_length xs ys sorted stable = risen-is ys (rise ys sorted) ∙ same-keyed length_of xs ys stable (numbers_from 0 129)

@@ -25,6 +25,7 @@ mod Along
 mod Forms
 mod Starting
 mod Levelled
+mod StableKeys
 mod ByLength
 mod RoutesLeft
 mod Permissions
