@@ -6,7 +6,7 @@ ghost use Rattle.number_runs.specs.Kept.{Keeps};
 use std::alloc::{AllocError, Global};
 
 /// A run of more numbers is cut in half where room is made.
-const MOST: usize = 512;
+const MOST: usize = 2048;
 
 fn is_long(run: &[u32]) -> bool
     ensures { IsTrue result → 1 < length run.now }

@@ -16,7 +16,7 @@ const AT_LEAST: usize = 64;
 /// A list of numbers.
 #[derive(Drop)]
 pub struct Runs {
-    /// The numbers, in runs of some hundreds. No run is empty but the first.
+    /// The numbers, in runs of a thousand or two. No run is empty but the first.
     runs: Vec<Vec<u32>>,
     len: usize,
     /// For so many numbers more each run has room.
