@@ -104,8 +104,20 @@ def lockdown(ranges):
 
 
 def packets(count):
+    """Packets of users in a range each: of those of a VPN with 8 interfaces, eleven rules match each."""
     for k in range(20_000):
         yield f"packet {100_000 + 10 * (k % max(count, 1))} 0x0 8.8.8.8"
+
+
+def five_rules_or_vpns(ranges):
+    """One range that is locked down, so five rules, or two VPNs with so many ranges."""
+    return vpns(ranges) if ranges else lockdown(1)
+
+
+def packets_of_others(_):
+    """Packets of users in no range: three rules match each."""
+    for k in range(20_000):
+        yield f"packet {5 + k % 50} 0x0 8.8.8.8"
 
 
 def lockdowns(count):
@@ -136,6 +148,7 @@ WORKLOADS = (
     Workload("8,000 routes and 8,000 more", (8_000, 16_000), all_but_8000, last_8000, 1.5),
     Workload("a packet by the routes", (10, 16_000), routes_in_one_table, packets_by_routes, 2),
     Workload("a full network is destroyed", (1_600, 16_000), full_network, lambda n: ["network destroy 100"], 12),
+    Workload("another's packet by the rules", (0, 1_664), five_rules_or_vpns, packets_of_others, 3),
     Workload("a packet by the rules", (1, 1_664), vpns, packets, 3),
     Workload("a command by the rules", (1, 1_664), vpns, lockdowns, 5),
     Workload("a packet under lockdown", (1, 1_000), lockdown, packets, 1.5),
