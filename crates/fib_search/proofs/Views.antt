@@ -40,6 +40,10 @@ lt_prop a b = hlevel props
 le_prop : (a b : ℕ) → IsProp (a ≤ b)
 le_prop a b = hlevel props
 
+-- what is read of the same nodes
+pub read_of : (bound : Option ℕ) (place : ℕ) (o : Option NodeView) (ns ms : List (Option TrieNode)) → ns ≡ ms → o ≡ option_map (view_of bound) (node_at ns place) → o ≡ option_map (view_of bound) (node_at ms place)
+read_of bound place o ns ms same read = subst (λ nodes. o ≡ option_map (view_of bound) (node_at nodes place)) same read
+
 pub start_view : (nodes : List (Option TrieNode)) (routes : List Route) → ∥ IsTrie nodes routes ∥₁ → (addr : Addr) (bound : Option ℕ) → ∥ Going nodes routes addr bound (root_of (family_of addr)) None ∥₁
 start_view nodes routes trie addr bound = ∥∥₁_map trie (λ t. start nodes routes t addr bound)
 
