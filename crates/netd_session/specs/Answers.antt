@@ -41,6 +41,8 @@ use Rattle.netd_session.specs.SocketLines.{IsSocketLine}
 use Rattle.netd_session.specs.Told.{IsDone, IsRefused, IsTold}
 use Rattle.netd_session.specs.Turns.{Standing, turn_of}
 use Rattle.netd_session.specs.Watches.{IsWatched, requests_text}
+use Rattle.netd_session.specs.declared.answer.Telling.{Telling}
+use Rattle.netd_session.specs.declared.answer.Telling.TheVariants as telling
 use Rattle.netd_session.specs.declared.turn.Said.{Said}
 use Rattle.netd_session.specs.declared.turn.Said.TheVariants as said
 use Rattle.netd_session.specs.declared.turn.Turn.{Turn}
@@ -100,6 +102,12 @@ went_text state mark verdict trail = watch_text state mark verdict ++ trail_text
 -- where a packet goes that is passed on, and the rules that it meets on the way
 abbrev pub passed_text : StateView → Verdict → List Step → List ℕ
 passed_text state verdict trail = verdict_text state verdict ++ line_feed ++ trail_text trail
+
+-- what is told of a packet
+abbrev pub told_text : Telling → StateView → ℕ → Verdict → List Step → List ℕ
+told_text telling.Way state mark verdict trail = went_text state mark verdict trail
+told_text telling.PassedWay state mark verdict trail = passed_text state verdict trail
+told_text telling.Verdict state mark verdict trail = watch_text state mark verdict
 
 -- a packet's line says where the policy sends it, and prints the rules that it meets on the way
 abbrev pub IsTraced : Packet → ℕ → (s e : Standing) → List Turn → List ℕ → Type 0

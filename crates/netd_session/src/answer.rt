@@ -5,7 +5,7 @@ ghost use Rattle.kernel_model.specs.View.{state_of};
 ghost use Rattle.kernel_model.specs.Walk.{trail_of};
 ghost use Rattle.net_control.specs.View.{IsKept};
 ghost use Rattle.policy_meaning.specs.Policy.{policy};
-ghost use Rattle.netd_session.specs.Answers.{passed_text, shown_text, watch_text, went_text};
+ghost use Rattle.netd_session.specs.Answers.{shown_text, told_text, watch_text};
 
 use crate::turn::Said;
 use kernel_model::Kernel;
@@ -40,8 +40,20 @@ fn write_marked_verdict(
     append_bytes(b"\n", answer)
 }
 
-// Appends the text of a packet's way.
-fn write_way(
+/// What is told of a packet.
+#[derive(Clone, Copy)]
+pub(crate) enum Telling {
+    /// Where it goes, with its mark, and the rules that it meets on the way.
+    Way,
+    /// Where it goes and the rules, of a packet that is passed on.
+    PassedWay,
+    /// Where it goes, with its mark.
+    Verdict,
+}
+
+// Appends what is told of a packet.
+fn write_told(
+    telling: Telling,
     state: &State,
     mark: u32,
     verdict: &Verdict,
@@ -49,16 +61,28 @@ fn write_way(
     answer: &mut Vec<u8>,
 ) -> Result<(), AllocError>
     ensures { Appends answer.old answer.new result
-        (went_text state.now mark verdict.now trail.now.steps) }
+        (told_text telling state.now mark verdict.now trail.now.steps) }
 {
-    write_marked_verdict(state, mark, verdict, answer)?;
-    write_trail(trail, answer)
+    match telling {
+        Telling::Way => {
+            write_marked_verdict(state, mark, verdict, answer)?;
+            write_trail(trail, answer)
+        }
+        Telling::PassedWay => {
+            write_verdict(state, verdict, answer)?;
+            append_bytes(b"\n", answer)?;
+            write_trail(trail, answer)
+        }
+        Telling::Verdict => write_marked_verdict(state, mark, verdict, answer),
+    }
 }
 
-// Tells where the policy sends the packet, which is where the kernel's rules send it, and the rules that it meets.
+// Tells where the policy sends the packet, which is where the kernel's rules send it, and the rules that it meets, as far as
+// they are told.
 pub(crate) fn tell_packet<K: Kernel>(
     alloc: Global,
     number: u32,
+    telling: Telling,
     packet: &Packet,
     controller: &Controller,
     kernel: &K,
@@ -72,7 +96,8 @@ pub(crate) fn tell_packet<K: Kernel>(
     ensures text { OnOk result
         (answer.new.items
         ≡ numbered number
-        (went_text controller.now.state packet.now.mark (policy controller.now.state packet.now)
+        (told_text telling controller.now.state packet.now.mark
+        (policy controller.now.state packet.now)
         (trail_of (state_of (K.seen kernel.now)) packet.now))) }
 {
     table_means_policy();
@@ -80,81 +105,7 @@ pub(crate) fn tell_packet<K: Kernel>(
     let verdict = trail.verdict();
     let mark = packet.mark();
     write_line_number(number, answer)?;
-    write_way(controller.state(), mark, &verdict, &trail, answer)?;
-    Ok(Said::Went { mark, verdict })
-}
-
-// Appends the text of a way of a packet that is passed on.
-fn write_passed_way(
-    state: &State,
-    verdict: &Verdict,
-    trail: &Trail,
-    answer: &mut Vec<u8>,
-) -> Result<(), AllocError>
-    ensures { Appends answer.old answer.new result
-        (passed_text state.now verdict.now trail.now.steps) }
-{
-    write_verdict(state, verdict, answer)?;
-    append_bytes(b"\n", answer)?;
-    write_trail(trail, answer)
-}
-
-// Tells where the policy sends a packet that is passed on, which is where the kernel's rules send it, and the rules that it
-// meets.
-pub(crate) fn tell_passed<K: Kernel>(
-    alloc: Global,
-    number: u32,
-    packet: &Packet,
-    controller: &Controller,
-    kernel: &K,
-    answer: &mut Vec<u8>,
-) -> Result<Said, AllocError>
-    requires kept { IsKept controller.now (K.seen kernel.now) }
-    requires runs { controller.now.halted ≡ None }
-    requires empty { answer.old.items ≡ [] }
-    ensures said { IfOk result
-        (λ said. said ≡ Said.Went packet.now.mark (policy controller.now.state packet.now)) }
-    ensures text { OnOk result
-        (answer.new.items
-        ≡ numbered number
-        (passed_text controller.now.state (policy controller.now.state packet.now)
-        (trail_of (state_of (K.seen kernel.now)) packet.now))) }
-{
-    table_means_policy();
-    let trail = follow(alloc, kernel, packet)?;
-    let verdict = trail.verdict();
-    write_line_number(number, answer)?;
-    write_passed_way(controller.state(), &verdict, &trail, answer)?;
-    Ok(Said::Went {
-        mark: packet.mark(),
-        verdict,
-    })
-}
-
-// Tells where the policy sends the packet, which is where the kernel's rules send it.
-pub(crate) fn tell_verdict<K: Kernel>(
-    number: u32,
-    packet: &Packet,
-    controller: &Controller,
-    kernel: &K,
-    answer: &mut Vec<u8>,
-) -> Result<Said, AllocError>
-    requires kept { IsKept controller.now (K.seen kernel.now) }
-    requires runs { controller.now.halted ≡ None }
-    requires empty { answer.old.items ≡ [] }
-    ensures said { IfOk result
-        (λ said. said ≡ Said.Went packet.now.mark (policy controller.now.state packet.now)) }
-    ensures text { OnOk result
-        (answer.new.items
-        ≡ numbered number
-        (watch_text controller.now.state packet.now.mark
-        (policy controller.now.state packet.now))) }
-{
-    table_means_policy();
-    let verdict = kernel.walk(packet);
-    let mark = packet.mark();
-    write_line_number(number, answer)?;
-    write_marked_verdict(controller.state(), mark, &verdict, answer)?;
+    write_told(telling, controller.state(), mark, &verdict, &trail, answer)?;
     Ok(Said::Went { mark, verdict })
 }
 

@@ -7,12 +7,12 @@ ghost use Rattle.net_control.specs.View.{IsKept};
 ghost use Rattle.policy_meaning.specs.Policy.{policy};
 ghost use Rattle.turn_text.specs.Texts.{numbered, refused_text};
 ghost use Rattle.turn_text.specs.declared.answer.Answer.TheVariants as answer;
-ghost use Rattle.netd_session.specs.Answers.{passed_text, watch_text, went_text};
+ghost use Rattle.netd_session.specs.Answers.{told_text};
 ghost use Rattle.netd_session.specs.Lines.{Answers};
 ghost use Rattle.netd_session.specs.Talks.{stands};
 ghost use Rattle.netd_session.specs.Turns.{turn_of};
 
-use crate::answer::{tell_packet, tell_passed, tell_verdict};
+use crate::answer::{Telling, tell_packet};
 use crate::line::Talk;
 use crate::turn::Said;
 use crate::watch::Watch;
@@ -30,6 +30,7 @@ impl Talk {
     fn answer_packet<K: Kernel>(
         &mut self,
         number: u32,
+        telling: Telling,
         packet: &Packet,
         kernel: &K,
     ) -> Result<(), AllocError>
@@ -44,7 +45,7 @@ impl Talk {
         ensures text { OnOk result
             (self.new.answer.items
             ≡ numbered number
-            (went_text self.old.controller.state packet.now.mark
+            (told_text telling self.old.controller.state packet.now.mark
             (policy self.old.controller.state packet.now)
             (trail_of (state_of (K.seen kernel.now)) packet.now))) }
         ensures err { OnErr result (self.new.turns.items ≡ self.old.turns.items) }
@@ -53,71 +54,12 @@ impl Talk {
         let said = tell_packet(
             self.alloc,
             number,
+            telling,
             packet,
             &self.controller,
             kernel,
             &mut self.answer,
         )?;
-        self.note(number, said, kernel)
-    }
-
-    fn answer_passed_packet<K: Kernel>(
-        &mut self,
-        number: u32,
-        packet: &Packet,
-        kernel: &K,
-    ) -> Result<(), AllocError>
-        requires kept { IsKept self.old.controller (K.seen kernel.now) }
-        requires runs { self.old.controller.halted ≡ None }
-        requires empty { self.old.answer.items ≡ [] }
-        ensures ok { OnOk result
-            (self.new.turns.items ≡ self.old.turns.items
-            ++ turn_of number
-            (Said.Went packet.now.mark (policy self.old.controller.state packet.now))
-            (stands self.old (K.seen kernel.now)) ∷ []) }
-        ensures text { OnOk result
-            (self.new.answer.items
-            ≡ numbered number
-            (passed_text self.old.controller.state
-            (policy self.old.controller.state packet.now)
-            (trail_of (state_of (K.seen kernel.now)) packet.now))) }
-        ensures err { OnErr result (self.new.turns.items ≡ self.old.turns.items) }
-        ensures stays { stands self.new (K.seen kernel.now) ≡ stands self.old (K.seen kernel.now) }
-    {
-        let said = tell_passed(
-            self.alloc,
-            number,
-            packet,
-            &self.controller,
-            kernel,
-            &mut self.answer,
-        )?;
-        self.note(number, said, kernel)
-    }
-
-    fn answer_watched_packet<K: Kernel>(
-        &mut self,
-        number: u32,
-        packet: &Packet,
-        kernel: &K,
-    ) -> Result<(), AllocError>
-        requires kept { IsKept self.old.controller (K.seen kernel.now) }
-        requires runs { self.old.controller.halted ≡ None }
-        requires empty { self.old.answer.items ≡ [] }
-        ensures ok { OnOk result
-            (self.new.turns.items ≡ self.old.turns.items
-            ++ turn_of number
-            (Said.Went packet.now.mark (policy self.old.controller.state packet.now))
-            (stands self.old (K.seen kernel.now)) ∷ []) }
-        ensures text { OnOk result
-            (self.new.answer.items
-            ≡ numbered number
-            (watch_text self.old.controller.state packet.now.mark
-            (policy self.old.controller.state packet.now))) }
-        ensures err { OnErr result (self.new.turns.items ≡ self.old.turns.items) }
-        ensures stays { stands self.new (K.seen kernel.now) ≡ stands self.old (K.seen kernel.now) }
-    {
-        let said = tell_verdict(number, packet, &self.controller, kernel, &mut self.answer)?;
         self.note(number, said, kernel)
     }
 
@@ -156,12 +98,12 @@ impl Talk {
         match link {
             None => {
                 let packet = Packet::made(uid, mark, dest, None);
-                self.answer_packet(number, &packet, kernel)
+                self.answer_packet(number, Telling::Way, &packet, kernel)
             }
             Some(name) => match self.controller.state().link_named(name) {
                 Some(index) => {
                     let packet = Packet::made(uid, mark, dest, Some(index));
-                    self.answer_packet(number, &packet, kernel)
+                    self.answer_packet(number, Telling::Way, &packet, kernel)
                 }
                 None => self.refuse(number, Code::NoDevice, kernel),
             },
@@ -188,7 +130,7 @@ impl Talk {
         match self.sockets.get(name) {
             Some(socket) => {
                 let packet = Packet::made(socket.uid, socket.mark, dest, socket.bound);
-                self.answer_packet(number, &packet, kernel)
+                self.answer_packet(number, Telling::Way, &packet, kernel)
             }
             None => self.refuse(number, Code::NoEntry, kernel),
         }
@@ -213,7 +155,7 @@ impl Talk {
     {
         match self.controller.state().link_named(link) {
             Some(index) => match Packet::passed(index, dest) {
-                Some(packet) => self.answer_passed_packet(number, &packet, kernel),
+                Some(packet) => self.answer_packet(number, Telling::PassedWay, &packet, kernel),
                 None => self.refuse(number, Code::Invalid, kernel),
             },
             None => self.refuse(number, Code::NoDevice, kernel),
@@ -242,7 +184,7 @@ impl Talk {
             return self.refuse(number, Code::NoEntry, kernel);
         };
         let packet = Packet::made(socket.uid, socket.mark, dest, socket.bound);
-        self.answer_watched_packet(number, &packet, kernel)?;
+        self.answer_packet(number, Telling::Verdict, &packet, kernel)?;
         self.watch = Some(Watch {
             socket: *name,
             dest,

@@ -3,7 +3,7 @@ ghost use Rattle.std.specs.Prelude.{◌≡◌, ◌+◌, ◌<◌, drop};
 ghost use Rattle.rule_index.specs.Spots.{below, spot_by};
 ghost use Rattle.rule_index.specs.Sorted.{Rises, spots_by, place_of, put, cut};
 
-use crate::spot::{Sorting, Spot, spot_by};
+use crate::spot::{Sorting, Spot, is_below, spot_by};
 use number_runs::{Rest, Runs, Test};
 use rule_match::Rule;
 
@@ -19,7 +19,7 @@ impl<'a> Test for IsBelow<'a> {
     ghost passes = { λ test number. below (spot_by test.sorting test.rules.now number) test.target.now };
 
     fn passes(&self, number: u32) -> bool {
-        spot_by(self.rules, self.sorting, number).is_below(self.target)
+        is_below(self.rules, self.sorting, number, self.target)
     }
 }
 

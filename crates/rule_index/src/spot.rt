@@ -191,6 +191,26 @@ pub fn spot_by(rules: &[Rule], sorting: Sorting, number: u32) -> Spot
     }
 }
 
+// Whether a rule of this number stands below a spot. Most priorities differ, and then nothing else of the rule is looked at.
+fn stands_below(rule: &Rule, sorting: Sorting, number: u32, target: &Spot) -> bool
+    ensures { result ≡ below (standing_by sorting rule.now number) target.now }
+{
+    if rule.priority != target.priority {
+        return rule.priority < target.priority;
+    }
+    standing(rule, sorting, number).is_below(target)
+}
+
+/// Whether the rule that arrived with this number stands below a spot.
+pub fn is_below(rules: &[Rule], sorting: Sorting, number: u32, target: &Spot) -> bool
+    ensures { result ≡ below (spot_by sorting rules.now number) target.now }
+{
+    match rules.get(number as usize) {
+        Some(rule) => stands_below(rule, sorting, number, target),
+        None => stands_below(&OWN_RULE, sorting, number, target),
+    }
+}
+
 // The least value of the group's rules that can match the packet.
 fn low_of(packet: &Packet, group: u8) -> u64
     ensures { result ≡ low_of packet.now group }

@@ -113,10 +113,10 @@ has_list-at (kind ∷ kinds) (suc place) d within is = by (is_list (kind_of kind
     by false rest = rest
 
 -- the same over the code's kinds, by their places
-pub fills_next : (kinds : List Coded) (place : ℕ) (d : Coded) (from at next : Words) (text : List ℕ) (old new : Slots) → place < length kinds →
-    Fills (kinds_in kinds) (kinds_from kinds place) from at old → Leads text at → ReadsValue (kind_of (get_or kinds place d)) text old (Some new) → IsNext at next →
+pub fills_next : (kinds : List Coded) (place : ℕ) (d : Coded) (from at next : Words) (text : List ℕ) (old new : Slots) (done : Unit {0}) → place < length kinds →
+    Fills (kinds_in kinds) (kinds_from kinds place) from at old → Leads text at → ReadsValue (kind_of (get_or kinds place d)) text old new (Some done) → IsNext at next →
     Fills (kinds_in kinds) (kinds_from kinds (place + 1)) from next new
-fills_next kinds place d from at next text old new within fills leads reads step =
+fills_next kinds place d from at next text old new done within fills leads reads step =
     fills_on (kinds_in kinds) (kinds_from kinds (place + 1)) (kind_of (get_or kinds place d)) from at next text old new
     (subst (λ (ks : List Kind). Fills (kinds_in kinds) ks from at old) (kinds_at kinds place d within) fills) leads reads.0 reads.1 reads.2 step
 
@@ -126,10 +126,10 @@ fills_stop kinds place d from at old within fills ends =
     fills_none (kinds_in kinds) (kinds_from kinds (place + 1)) (kind_of (get_or kinds place d)) from at old
     (subst (λ (ks : List Kind). Fills (kinds_in kinds) ks from at old) (kinds_at kinds place d within) fills) ends
 
-pub fills_miss : (kinds : List Coded) (place : ℕ) (d : Coded) (from at : Words) (text : List ℕ) (old : Slots) → place < length kinds →
-    Fills (kinds_in kinds) (kinds_from kinds place) from at old → Leads text at → ReadsValue (kind_of (get_or kinds place d)) text old None →
+pub fills_miss : (kinds : List Coded) (place : ℕ) (d : Coded) (from at : Words) (text : List ℕ) (old new : Slots) → place < length kinds →
+    Fills (kinds_in kinds) (kinds_from kinds place) from at old → Leads text at → ReadsValue (kind_of (get_or kinds place d)) text old new None →
     AreOf (kinds_in kinds) (texts (words_left from)) → ⊥
-fills_miss kinds place d from at text old within fills leads reads =
+fills_miss kinds place d from at text old new within fills leads reads =
     fills_other (kinds_in kinds) (kinds_from kinds (place + 1)) (kind_of (get_or kinds place d)) from at text old
     (subst (λ (ks : List Kind). Fills (kinds_in kinds) ks from at old) (kinds_at kinds place d within) fills) leads reads
 

@@ -53,7 +53,7 @@ fn read_values(kinds: &[Kind], mut words: Words<'_>) -> Option<Values>
 {
     let mut values = Values::nothing();
     for kind in kinds {
-        values = values.with(*kind, words.first()?)?;
+        values.read(*kind, words.first()?)?;
         words.advance();
     }
     Some(values)
@@ -97,7 +97,7 @@ fn read_form(alloc: Global, form: Form, words: Words<'_>) -> Result<Line, AllocE
     let mut list = Vec::new(alloc);
     read_list(kinds, words, &mut list)?;
     match read_values(kinds, words) {
-        Some(values) => Ok(say(form, values, Ranges::of(list))),
+        Some(values) => Ok(say(form, &values, Ranges::of(list))),
         None => unreachable!(),
     }
 }

@@ -13,8 +13,8 @@ use word_text::Values;
 
 /// The line of this form with these values and ranges.
 #[rattlefmt::skip]
-pub fn say(form: Form, v: Values, ranges: Ranges) -> Line
-    ensures { result ≡ says form v ranges }
+pub fn say(form: Form, v: &Values, ranges: Ranges) -> Line
+    ensures { result ≡ says form v.now ranges }
 {
     match form {
         Form::Packet => Line::Trace(TraceLine::Made { uid: v.uid, mark: v.mark, dest: v.addr, link: None }),

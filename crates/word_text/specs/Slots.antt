@@ -104,6 +104,6 @@ abbrev pub list_in : (kinds : List Kind) → Values kinds → List UidRange
 list_in kinds values = list_with kinds values []
 
 -- the value that the word spells was put, or it spells none
-abbrev pub ReadsValue : Kind → List ℕ → Slots → Option Slots → Type 0
-ReadsValue kind text old None = (value : ValueOf kind) → IsSpelled kind value text → ⊥
-ReadsValue kind text old (Some new) = (value : ValueOf kind) × IsSpelled kind value text × (new ≡ put kind value old)
+abbrev pub ReadsValue : Kind → List ℕ → Slots → Slots → Option (Unit {0}) → Type 0
+ReadsValue kind text old new None = (value : ValueOf kind) → IsSpelled kind value text → ⊥
+ReadsValue kind text old new (Some done) = (value : ValueOf kind) × IsSpelled kind value text × (new ≡ put kind value old)

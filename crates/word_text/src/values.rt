@@ -61,61 +61,34 @@ impl Values {
         }
     }
 
-    /// The same with the value that the word spells, by the name of its kind. A list is only looked at.
-    pub fn with(self, kind: Kind, word: &[u8]) -> Option<Values>
-        ensures { ReadsValue (kind_of kind) word.now self result }
+    /// Keeps the value that the word spells, by the name of its kind; none where it spells none. A list is only looked at.
+    pub fn read(&mut self, kind: Kind, word: &[u8]) -> Option<()>
+        ensures { ReadsValue (kind_of kind) word.now self.old self.new result }
     {
         match kind {
-            Kind::Word(text) => if word == text { Some(self) } else { None },
-            Kind::Name => Some(Values {
-                name: read_name(word)?,
-                ..self
-            }),
-            Kind::Other => Some(Values {
-                other: read_name(word)?,
-                ..self
-            }),
-            Kind::Index => Some(Values {
-                index: read_index(word)?,
-                ..self
-            }),
-            Kind::Net => Some(Values {
-                net: read_net(word)?,
-                ..self
-            }),
-            Kind::Rank => Some(Values {
-                rank: read_rank(word)?,
-                ..self
-            }),
-            Kind::Table => Some(Values {
-                table: read_table(word)?,
-                ..self
-            }),
-            Kind::Permission => Some(Values {
-                permission: read_permission(word)?,
-                ..self
-            }),
-            Kind::Uid => Some(Values {
-                uid: read_uid(word)?,
-                ..self
-            }),
-            Kind::Mark => Some(Values {
-                mark: read_mark(word)?,
-                ..self
-            }),
-            Kind::Range => Some(Values {
-                range: read_range(word)?,
-                ..self
-            }),
-            Kind::Ranges => if are_ranges(word) { Some(self) } else { None },
-            Kind::Addr => Some(Values {
-                addr: read_address(word)?,
-                ..self
-            }),
-            Kind::Prefix => Some(Values {
-                prefix: read_destination(word)?,
-                ..self
-            }),
+            Kind::Word(text) => {
+                if word != text {
+                    return None;
+                }
+            }
+            Kind::Name => self.name = read_name(word)?,
+            Kind::Other => self.other = read_name(word)?,
+            Kind::Index => self.index = read_index(word)?,
+            Kind::Net => self.net = read_net(word)?,
+            Kind::Rank => self.rank = read_rank(word)?,
+            Kind::Table => self.table = read_table(word)?,
+            Kind::Permission => self.permission = read_permission(word)?,
+            Kind::Uid => self.uid = read_uid(word)?,
+            Kind::Mark => self.mark = read_mark(word)?,
+            Kind::Range => self.range = read_range(word)?,
+            Kind::Ranges => {
+                if !are_ranges(word) {
+                    return None;
+                }
+            }
+            Kind::Addr => self.addr = read_address(word)?,
+            Kind::Prefix => self.prefix = read_destination(word)?,
         }
+        Some(())
     }
 }

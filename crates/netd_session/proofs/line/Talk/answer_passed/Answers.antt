@@ -19,14 +19,14 @@ pub returns-in-Some-passed-clause-answers : goal.returns-in-Some-passed-clause-a
 returns-in-Some-passed-clause-answers g c =
     let kernel = g.K.Kernel.seen c.args.kernel.now in
     let s = stands c.args.self.now kernel in
-    let e = stands c.answer_passed_packet.new.self kernel in
+    let e = stands c.answer_packet.new.self kernel in
     let packet = c.in-Some-passed.packet in
     let known : link_named c.args.self.now.controller.state c.args.link.now ≡ Some c.in-Some.index =
     ap (λ (v : StateView). link_named v c.args.link.now) (sym c.state.ensures) ∙ (sym c.link_named.ensures ∙ c.in-Some.is) in
-    told (line.Trace (trace.Passed c.args.link.now c.args.dest)) c.answer_passed_packet.result (said.Went packet.mark (policy c.args.self.now.controller.state packet))
-    (passed_text c.args.self.now.controller.state (policy c.args.self.now.controller.state packet) (trail_of (state_of kernel) packet)) c.args.number s e _ _ c.answer_passed_packet.new.self.answer.items
-    (passed_line c.args.number s e c.answer_passed_packet.new.self.answer.items c.args.link.now c.args.dest c.in-Some.index packet known c.in-Some-passed.ensures.some)
-    c.answer_passed_packet.ensures.stays c.answer_passed_packet.ensures.ok c.answer_passed_packet.ensures.text c.answer_passed_packet.ensures.err
+    told (line.Trace (trace.Passed c.args.link.now c.args.dest)) c.answer_packet.result (said.Went packet.mark (policy c.args.self.now.controller.state packet))
+    (passed_text c.args.self.now.controller.state (policy c.args.self.now.controller.state packet) (trail_of (state_of kernel) packet)) c.args.number s e _ _ c.answer_packet.new.self.answer.items
+    (passed_line c.args.number s e c.answer_packet.new.self.answer.items c.args.link.now c.args.dest c.in-Some.index packet known c.in-Some-passed.ensures.some)
+    c.answer_packet.ensures.stays c.answer_packet.ensures.ok c.answer_packet.ensures.text c.answer_packet.ensures.err
 
 pub returns-in-None-passed-clause-answers : goal.returns-in-None-passed-clause-answers
 returns-in-None-passed-clause-answers g c =

@@ -18,11 +18,11 @@ returns-clause-answers g c =
     let s = stands c.args.self.now kernel in
     let watch : Option Watch = Some (record { socket = c.args.name.now; dest = c.args.dest }) in
     let next : Standing = record s { watch = watch } in
-    let e : Standing = record (stands c.answer_watched_packet.new.self kernel) { watch = watch } in
+    let e : Standing = record (stands c.answer_packet.new.self kernel) { watch = watch } in
     let packet = c.made-packet.result in
     let known : socket_of c.args.name.now c.args.self.now.sockets ≡ Some c.in-Some.socket = sym c.get.ensures ∙ c.in-Some.is in
     told_then (line.Trace (trace.Watch c.args.name.now c.args.dest)) (Ok tt) (said.Went packet.mark (policy c.args.self.now.controller.state packet))
-    (watch_text c.args.self.now.controller.state packet.mark (policy c.args.self.now.controller.state packet)) c.args.number s next e _ _ c.answer_watched_packet.new.self.answer.items
-    (watch_line c.args.number s e c.answer_watched_packet.new.self.answer.items c.args.name.now c.args.dest c.in-Some.socket packet known c.made-packet.ensures)
-    (ap (λ (x : Standing). record x { watch = watch }) c.answer_watched_packet.ensures.stays) tt
-    c.in_ok-answer_watched_packet.ensures.ok c.in_ok-answer_watched_packet.ensures.text tt
+    (watch_text c.args.self.now.controller.state packet.mark (policy c.args.self.now.controller.state packet)) c.args.number s next e _ _ c.answer_packet.new.self.answer.items
+    (watch_line c.args.number s e c.answer_packet.new.self.answer.items c.args.name.now c.args.dest c.in-Some.socket packet known c.made-packet.ensures)
+    (ap (λ (x : Standing). record x { watch = watch }) c.answer_packet.ensures.stays) tt
+    c.in_ok-answer_packet.ensures.ok c.in_ok-answer_packet.ensures.text tt
