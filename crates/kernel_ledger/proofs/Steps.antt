@@ -14,6 +14,8 @@ use Rattle.kernel_model.specs.declared.request.EntryKind.{EntryKind}
 use Rattle.kernel_model.specs.declared.request.Entry.{Entry}
 use Rattle.kernel_model.proofs.Replays.{replay-append, well_asked_push}
 use Rattle.kernel_ledger.specs.Kept.{IsKept, fails_next}
+use Rattle.kernel_ledger.specs.Seen.{seen_by}
+use Rattle.kernel_ledger.specs.declared.ledger.Ledger.{Ledger}
 use Rattle.kernel_ledger.proofs.Pushed.{FailWhere-push, filter_push_in, filter_push_out}
 
 module _ {lists : Option Lists} {journal : List Entry} {a d : ℕ} (kept : IsKept lists journal a d) where
@@ -64,18 +66,21 @@ module _ {lists : Option Lists} {journal : List Entry} {a d : ℕ} (kept : IsKep
         }
 
 -- what one more entry makes of the state that the journal left
-pub acted : (old new : KernelView) (kind : EntryKind) (q : Request) (state next : KernelState) → new ≡ grown old (entry kind q ∷ []) → replay old.journal ≡ state → act state kind q ≡ next → replay new.journal ≡ next
-acted old new kind q state next grew was acts =
-    ap (λ (v : KernelView). replay v.journal) grew ∙ replay-append old.journal (entry kind q ∷ []) ∙ ap (λ k. act k kind q) was ∙ acts
+module _ (old new : Ledger) (kind : EntryKind) (state : KernelState) where
+  pub acted : (q : Request) (next : KernelState) → seen_by new ≡ grown (seen_by old) (entry kind q ∷ []) → replay old.journal.items ≡ state → act state kind q ≡ next
+      → replay new.journal.items ≡ next
+  acted q next grew was acts =
+      ap (λ (v : KernelView). replay v.journal) grew ∙ replay-append old.journal.items (entry kind q ∷ []) ∙ ap (λ k. act k kind q) was ∙ acts
 
--- what a request does to one family's rules
-pub acts_in4 : (k : KernelState) (kind : EntryKind) (family : Family) (rule : Rule) (rules : List Rule) → family ≡ fam.V4 → rules ≡ rules_of (act k kind (req.Rule fam.V4 rule)) fam.V4
-    → act k kind (req.Rule fam.V4 rule) ≡ record k { rules4 = rules_of (act k kind (req.Rule fam.V4 rule)) fam.V4 } → act k kind (req.Rule family rule) ≡ record k { rules4 = rules }
-acts_in4 k kind family rule rules is goes only = ap (λ f. act k kind (req.Rule f rule)) is ∙ only ∙ ap (λ rs. record k { rules4 = rs }) (sym goes)
+  -- where it is of one family's rules
+  module _ (family : Family) (rule : Rule) (rules : List Rule) (grew : seen_by new ≡ grown (seen_by old) (entry kind (req.Rule family rule) ∷ [])) (was : replay old.journal.items ≡ state) where
+    pub acted_in4 : family ≡ fam.V4 → rules ≡ rules_of (act state kind (req.Rule fam.V4 rule)) fam.V4
+        → act state kind (req.Rule fam.V4 rule) ≡ record state { rules4 = rules_of (act state kind (req.Rule fam.V4 rule)) fam.V4 } → replay new.journal.items ≡ record state { rules4 = rules }
+    acted_in4 is goes only = acted (req.Rule family rule) (record state { rules4 = rules }) grew was (ap (λ f. act state kind (req.Rule f rule)) is ∙ only ∙ ap (λ rs. record state { rules4 = rs }) (sym goes))
 
-pub acts_in6 : (k : KernelState) (kind : EntryKind) (family : Family) (rule : Rule) (rules : List Rule) → family ≡ fam.V6 → rules ≡ rules_of (act k kind (req.Rule fam.V6 rule)) fam.V6
-    → act k kind (req.Rule fam.V6 rule) ≡ record k { rules6 = rules_of (act k kind (req.Rule fam.V6 rule)) fam.V6 } → act k kind (req.Rule family rule) ≡ record k { rules6 = rules }
-acts_in6 k kind family rule rules is goes only = ap (λ f. act k kind (req.Rule f rule)) is ∙ only ∙ ap (λ rs. record k { rules6 = rs }) (sym goes)
+    pub acted_in6 : family ≡ fam.V6 → rules ≡ rules_of (act state kind (req.Rule fam.V6 rule)) fam.V6
+        → act state kind (req.Rule fam.V6 rule) ≡ record state { rules6 = rules_of (act state kind (req.Rule fam.V6 rule)) fam.V6 } → replay new.journal.items ≡ record state { rules6 = rules }
+    acted_in6 is goes only = acted (req.Rule family rule) (record state { rules6 = rules }) grew was (ap (λ f. act state kind (req.Rule f rule)) is ∙ only ∙ ap (λ rs. record state { rules6 = rs }) (sym goes))
 
 abbrev pub of_parts : List Rule → List Rule → List NumberedTable → KernelState
 of_parts rules4 rules6 tables = record { rules4 = rules4; rules6 = rules6; tables = tables }

@@ -26,7 +26,8 @@ room_by l tables = record { spare = l.spare; ready = tables.ready }
 abbrev pub starting : Option Lists → KernelView
 starting lists = record { journal = []; lists = lists; watching = [] }
 
-if_listed : (lists : Option Lists) (journal : List Entry) (a d : ℕ) → IsKept lists journal a d → IfListed lists journal
+if_listed : (lists : Option Lists) (journal : List Entry) (a d : ℕ) → IsKept lists journal a d
+    → IfListed lists journal
 if_listed None journal a d kept = tt
 if_listed (Some given) journal a d kept = kept.as_listed given refl
 

@@ -7,7 +7,8 @@ use crate::ledger::Ledger;
 
 /// Who decides which additions a kernel refuses and which deletions it breaks.
 pub trait Faults: Drop {
-    /// Whether the next addition is refused, where there are so many of what it adds: rules of its family, or routes of all tables.
+    /// Whether the next addition is refused, where there are so many of what it adds: rules of its family, or routes
+    /// of all tables.
     ghost refuses: { Self → KernelView → ℕ → Bool };
 
     /// Whether the next deletion breaks.

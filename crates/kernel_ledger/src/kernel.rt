@@ -86,8 +86,8 @@ impl<R: RuleStore> LedgerKernel<R, ByLists> {
 impl<R: RuleStore> LedgerKernel<R, ByQuota> {
     ghost use Rattle.kernel_ledger.specs.Seen.{starting};
 
-    /// The starting kernel with an empty journal. It refuses a rule where the family's list has `limit` rules or more, and
-    /// a route where all tables together have `limit` routes or more.
+    /// The starting kernel with an empty journal. It refuses a rule where the family's list has `limit` rules or more,
+    /// and a route where all tables together have `limit` routes or more.
     pub fn new(alloc: Global, limit: u64) -> Result<Self, AllocError>
         requires { 1 ≤ limit }
         ensures seen { IfOk result (λ kernel. ⟦<LedgerKernel<R, ByQuota> as Kernel>⟧.seen kernel ≡
@@ -109,9 +109,11 @@ impl<R: RuleStore, F: Faults> Kernel for LedgerKernel<R, F> {
 
     fn reserve(&mut self, more: u64) -> Result<(), AllocError>
         ensures seen { seen_by self.new.ledger ≡ seen_by self.old.ledger }
-        ensures ready { (room_by self.new.ledger self.new.tables).ready ≡ (room_by self.old.ledger self.old.tables).ready }
+        ensures ready { (room_by self.new.ledger self.new.tables).ready ≡
+            (room_by self.old.ledger self.old.tables).ready }
         ensures spare { OnOk result (more ≤ (room_by self.new.ledger self.new.tables).spare) }
-        ensures no_less { (room_by self.old.ledger self.old.tables).spare ≤ (room_by self.new.ledger self.new.tables).spare }
+        ensures no_less { (room_by self.old.ledger self.old.tables).spare ≤
+            (room_by self.new.ledger self.new.tables).spare }
         ensures faults { self.new.faults ≡ self.old.faults }
     {
         if more > self.ledger.spare() {
@@ -125,7 +127,8 @@ impl<R: RuleStore, F: Faults> Kernel for LedgerKernel<R, F> {
     fn prepare(&mut self, table: u32) -> Result<(), AllocError>
         ensures seen { seen_by self.new.ledger ≡ seen_by self.old.ledger }
         ensures ready { OnOk result ((room_by self.new.ledger self.new.tables).ready ≡ Some table) }
-        ensures spare { (room_by self.new.ledger self.new.tables).spare ≡ (room_by self.old.ledger self.old.tables).spare }
+        ensures spare { (room_by self.new.ledger self.new.tables).spare ≡
+            (room_by self.old.ledger self.old.tables).spare }
         ensures faults { self.new.faults ≡ self.old.faults }
     {
         self.tables.prepare(table)
@@ -147,19 +150,13 @@ impl<R: RuleStore, F: Faults> Kernel for LedgerKernel<R, F> {
         let refused = self
             .faults
             .refuses_next(&self.ledger, self.rule_count(family));
-        match self
-            .ledger
-            .ask_addition(Request::Rule { family, rule }, refused)
-        {
-            Err(fault) => Err(fault),
-            Ok(()) => {
-                match family {
-                    Family::V4 => self.rules4.put(&rule),
-                    Family::V6 => self.rules6.put(&rule),
-                }
-                Ok(())
-            }
+        self.ledger
+            .ask_addition(Request::Rule { family, rule }, refused)?;
+        match family {
+            Family::V4 => self.rules4.put(&rule),
+            Family::V6 => self.rules6.put(&rule),
         }
+        Ok(())
     }
 
     fn delete_rule(&mut self, family: Family, rule: &Rule) -> Result<(), KernelFault>
@@ -175,19 +172,13 @@ impl<R: RuleStore, F: Faults> Kernel for LedgerKernel<R, F> {
     {
         let rule = *rule;
         let breaks = self.faults.breaks_next(&self.ledger);
-        match self
-            .ledger
-            .ask_deletion(Request::Rule { family, rule }, breaks)
-        {
-            Err(fault) => Err(fault),
-            Ok(()) => {
-                match family {
-                    Family::V4 => self.rules4.cut(&rule),
-                    Family::V6 => self.rules6.cut(&rule),
-                }
-                Ok(())
-            }
+        self.ledger
+            .ask_deletion(Request::Rule { family, rule }, breaks)?;
+        match family {
+            Family::V4 => self.rules4.cut(&rule),
+            Family::V6 => self.rules6.cut(&rule),
         }
+        Ok(())
     }
 
     /// It is refused by the number of the routes of all tables.
@@ -234,16 +225,10 @@ impl<R: RuleStore, F: Faults> Kernel for LedgerKernel<R, F> {
     {
         let route = *route;
         let breaks = self.faults.breaks_next(&self.ledger);
-        match self
-            .ledger
-            .ask_deletion(Request::Route { table, route }, breaks)
-        {
-            Err(fault) => Err(fault),
-            Ok(()) => {
-                self.tables.delete(table, &route);
-                Ok(())
-            }
-        }
+        self.ledger
+            .ask_deletion(Request::Route { table, route }, breaks)?;
+        self.tables.delete(table, &route);
+        Ok(())
     }
 
     fn next_match(&self, packet: &Packet, from: u64) -> Option<FoundRule> {

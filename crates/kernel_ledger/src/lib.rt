@@ -1,5 +1,5 @@
-//! What a kernel is made of: the ledger of what it was asked, its tables of routes, and its rules, in any store that keeps
-//! their order.
+//! What a kernel is made of: the ledger of what it was asked, its tables of routes, and its rules, in any store that
+//! keeps their order.
 #![tactic(auto)]
 
 mod faults;

@@ -4,6 +4,7 @@ ghost use Rattle.prefixes.specs.Best.{best};
 ghost use Rattle.fib_table.specs.Table.{has_key, has_route, without_route};
 ghost use Rattle.kernel_model.specs.State.{device_table, start, loopback4, loopback6, loopback, put_route, cut_route, routes_of};
 ghost use Rattle.kernel_ledger.specs.Tables.{RoomyTable, table_of, place_of, empty, route_total};
+ghost use Rattle.kernel_ledger.specs.Room.{IsAside};
 
 use crate::numbered::NumberedTable;
 use kernel_model::DEVICE_TABLE;
@@ -116,8 +117,7 @@ fn add_last(
     number: u32,
     route: Route,
 )
-    requires aside { (t : RoomyTable) × (aside ≡ Some t) × (t.number ≡ number) × (t.routes ≡ []) ×
-        (0 < t.room) }
+    requires aside { IsAside number aside }
     requires room { vec_len tables.old < vec_capacity tables.old }
     ensures { (w : RoomyTable) × (tables.new.items ≡ tables.old.items ++ w ∷ []) ×
         (w.number ≡ number) × (w.routes ≡ route ∷ []) }

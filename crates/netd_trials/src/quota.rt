@@ -42,3 +42,38 @@ fn three_rules_are_too_few_to_start(rt: HostRuntime) -> Result<(), Fail> {
     assert_eq!(rt; kernel.entry_count(), 9);
     Ok(())
 }
+
+// With an interface of the local network a family has six rules. Two routes are there from the start, so four more have
+// room, and a fifth once one of them has gone.
+const ROUTES: &[u8] = b"link add usb0 4
+interface add 99 usb0
+route add 99 usb0 192.168.1.0/24
+route add 99 usb0 192.168.2.0/24
+route add 99 usb0 192.168.3.0/24
+route add 99 usb0 192.168.4.0/24
+route add 99 usb0 192.168.5.0/24
+route remove 99 usb0 192.168.1.0/24
+route add 99 usb0 192.168.5.0/24
+";
+
+const ROUTES_ANSWERS: &[u8] = b"1: done
+2: done
+3: done
+4: done
+5: done
+6: done
+7: kernel refused request 15
+8: done
+9: done
+";
+
+#[test]
+fn a_deleted_route_leaves_room(rt: HostRuntime) -> Result<(), Fail> {
+    let alloc = rt.alloc();
+    let mut kernel = QuotaKernel::new(alloc, 6)?;
+    let (ended, written) = run_over(alloc, ROUTES, &WHOLE, &mut kernel)?;
+    assert!(rt; ended.status() == Status::Finished);
+    assert!(rt; written.as_slice() == ROUTES_ANSWERS);
+    assert_eq!(rt; kernel.entry_count(), 17);
+    Ok(())
+}

@@ -66,7 +66,8 @@ fn close_up(runs: &mut Vec<Vec<u32>>, at: usize)
 pub fn cut<T: Test>(runs: &mut Vec<Vec<u32>>, test: &T) -> bool
     requires parted { IsParted (T.passes test.now) (numbers_of runs.old.items) }
     requires filled { AreFilled runs.old.items }
-    ensures found { result ≡ nat_lt (prefix_len (T.passes test.now) (numbers_of runs.old.items)) (length (numbers_of runs.old.items)) }
+    ensures found { result
+        ≡ nat_lt (prefix_len (T.passes test.now) (numbers_of runs.old.items)) (length (numbers_of runs.old.items)) }
     ensures numbers { numbers_of runs.new.items
         ≡ remove (numbers_of runs.old.items) (prefix_len (T.passes test.now) (numbers_of runs.old.items)) }
     ensures filled { AreFilled runs.new.items }

@@ -39,7 +39,8 @@ fn halve(runs: &mut Vec<Vec<u32>>, at: usize, spare: usize, alloc: Global) -> Re
     requires there { at < vec_len runs.old }
     requires long { IsLongAt runs.old.items at }
     ensures keeps { Keeps spare runs.old.items runs.new.items }
-    ensures room { HaveRoom spare (drop (at + 1) runs.old.items) → OnOk result (HaveRoom spare (drop (at + 1) runs.new.items)) }
+    ensures room { HaveRoom spare (drop (at + 1) runs.old.items)
+        → OnOk result (HaveRoom spare (drop (at + 1) runs.new.items)) }
 {
     runs.reserve(1)?;
     let half = second_half(alloc, &runs[at], spare)?;
@@ -57,7 +58,8 @@ fn halve_long(
 ) -> Result<(), AllocError>
     requires { at < vec_len runs.old }
     ensures keeps { Keeps spare runs.old.items runs.new.items }
-    ensures room { HaveRoom spare (drop (at + 1) runs.old.items) → OnOk result (HaveRoom spare (drop (at + 1) runs.new.items)) }
+    ensures room { HaveRoom spare (drop (at + 1) runs.old.items)
+        → OnOk result (HaveRoom spare (drop (at + 1) runs.new.items)) }
 {
     if is_long(&runs[at]) {
         halve(runs, at, spare, alloc)

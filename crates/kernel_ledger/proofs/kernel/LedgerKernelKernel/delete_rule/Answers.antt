@@ -1,28 +1,25 @@
 use Rattle.std.proofs.Common.{rules, refl, arith}
 use Rattle.kernel_model.specs.declared.request.EntryKind.TheVariants.{Deleted, Broken}
 use Rattle.kernel_model.specs.declared.request.Request.TheVariants as req
-use Rattle.kernel_ledger.specs.Seen.{seen_by}
-use Rattle.kernel_ledger.proofs.Steps.{acted, acts_in4, acts_in6, of_parts}
+use Rattle.kernel_ledger.proofs.Steps.{acted, acted_in4, acted_in6}
 use Rattle.kernel_ledger.proofs.kernel.LedgerKernelKernel.delete_rule.Goals as goal
 
 pub invariant_of-self : goal.invariant_of-self
-invariant_of-self g c =
-    record {
-      replayed =
-          acted (seen_by c.args.self.now.ledger) (seen_by c.ask_deletion.new.self) Broken (req.Rule c.args.family c.args.rule.now) _ _ (rw c.in-Err.is at c.ask_deletion.ensures.grown) c.args.self.now.replayed refl;
-      rules4_room = let h = c.args.self.now.rules4_room in omega (arith, h, c.ask_deletion.ensures.spare);
-      rules6_room = let h = c.args.self.now.rules6_room in omega (arith, h, c.ask_deletion.ensures.spare);
-      keeps_lists = search rules;
-    }
+invariant_of-self g c = record {
+  replayed =
+      acted c.args.self.now.ledger c.ask_deletion.new.self Broken _ (req.Rule c.args.family c.args.rule.now) _
+      (rw c.in_err-ask_deletion.was at c.ask_deletion.ensures.grown) c.args.self.now.replayed refl;
+  rules4_room = omega (arith, c.args.self.now.rules4_room, c.ask_deletion.ensures.spare);
+  rules6_room = omega (arith, c.args.self.now.rules6_room, c.ask_deletion.ensures.spare);
+  keeps_lists = search rules;
+}
 
 pub invariant_of-self-in-V4-clause-replayed : goal.invariant_of-self-in-V4-clause-replayed
 invariant_of-self-in-V4-clause-replayed g c =
-    let state = of_parts (g.R.RuleStore.rules c.args.self.now.rules4) (g.R.RuleStore.rules c.args.self.now.rules6) c.args.self.now.tables.tables in
-    acted (seen_by c.args.self.now.ledger) (seen_by c.ask_deletion.new.self) Deleted (req.Rule c.args.family c.args.rule.now) state _ (rw c.in-Ok.is at c.ask_deletion.ensures.grown) c.args.self.now.replayed
-    (acts_in4 state Deleted c.args.family c.args.rule.now (g.R.RuleStore.rules c.cut.new.self) c.in-V4.is c.cut.ensures.rules refl)
+    acted_in4 c.args.self.now.ledger c.ask_deletion.new.self Deleted _ c.args.family c.args.rule.now _
+    (rw c.in_ok-ask_deletion.was at c.ask_deletion.ensures.grown) c.args.self.now.replayed c.in-V4.is c.cut.ensures.rules refl
 
 pub invariant_of-self-in-V6-clause-replayed : goal.invariant_of-self-in-V6-clause-replayed
 invariant_of-self-in-V6-clause-replayed g c =
-    let state = of_parts (g.R.RuleStore.rules c.args.self.now.rules4) (g.R.RuleStore.rules c.args.self.now.rules6) c.args.self.now.tables.tables in
-    acted (seen_by c.args.self.now.ledger) (seen_by c.ask_deletion.new.self) Deleted (req.Rule c.args.family c.args.rule.now) state _ (rw c.in-Ok.is at c.ask_deletion.ensures.grown) c.args.self.now.replayed
-    (acts_in6 state Deleted c.args.family c.args.rule.now (g.R.RuleStore.rules c.cut-in-V6.new.self) c.in-V6.is c.cut-in-V6.ensures.rules refl)
+    acted_in6 c.args.self.now.ledger c.ask_deletion.new.self Deleted _ c.args.family c.args.rule.now _
+    (rw c.in_ok-ask_deletion.was at c.ask_deletion.ensures.grown) c.args.self.now.replayed c.in-V6.is c.cut-in-V6.ensures.rules refl
