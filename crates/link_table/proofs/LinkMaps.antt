@@ -20,7 +20,7 @@ pub room-each : {A S T : Type 0} (links : Vec Link A) (names : IndexMap (List �
     → (vec_len links < vec_capacity links) × (0 < spare names) × (0 < spare indices)
 room-each links names indices room = (omega (arith, room), omega (arith, room), omega (arith, room))
 
-none-either : (p q : Link → Bool) (ls : List Link) → list_any (λ l. p l || q l) ls ≡ false → (list_any p ls ≡ false) × (list_any q ls ≡ false)
+pub none-either : (p q : Link → Bool) (ls : List Link) → list_any (λ l. p l || q l) ls ≡ false → (list_any p ls ≡ false) × (list_any q ls ≡ false)
 none-either p q [] none = (refl, refl)
 none-either p q (l ∷ ls) none =
     let parts = or_parts (p l || q l) (list_any (λ m. p m || q m) ls) none in

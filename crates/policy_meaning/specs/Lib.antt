@@ -1,3 +1,4 @@
 pub mod Policy
 pub mod Promise
 pub mod Asking
+pub mod Named

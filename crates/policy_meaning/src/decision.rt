@@ -33,8 +33,7 @@ ghost use Rattle.uid_ranges.specs.Ranges.{any_holds};
 use crate::asking::ask_link;
 use crate::holders::{Holder, ask_holders};
 use crate::named::{
-    ask_bound, ask_bypass_named, ask_choice, ask_default, ask_free_named, ask_local, ask_reached,
-    ask_secure_named, names_virtual,
+    Naming, ask_bound, ask_default, ask_local, ask_named, ask_reached, names_virtual,
 };
 use crate::rights::{has_system, is_explicit, is_protected, is_root, names_none};
 use policy_state::{State, TetherPair};
@@ -93,7 +92,7 @@ fn ask_secure_with_system(state: &State, packet: &Packet) -> Option<Verdict>
         (λ n. is_secure n.kind)) (has_system packet.now.mark) }
 {
     if has_system(packet) {
-        ask_secure_named(state, packet)
+        ask_named(Naming::Secure, state, packet)
     } else {
         None
     }
@@ -115,7 +114,7 @@ fn ask_explicit(state: &State, packet: &Packet) -> Option<Verdict>
         (may_choose packet.now)) (is_explicit packet.now.mark) }
 {
     if is_explicit(packet) {
-        ask_choice(state, packet)
+        ask_named(Naming::Chosen, state, packet)
     } else {
         None
     }
@@ -139,7 +138,7 @@ fn ask_free_implied(state: &State, packet: &Packet) -> Option<Verdict>
     if is_explicit(packet) {
         None
     } else {
-        ask_free_named(state, packet)
+        ask_named(Naming::Free, state, packet)
     }
 }
 
@@ -148,7 +147,7 @@ fn ask_bypass_with_system(state: &State, packet: &Packet) -> Option<Verdict>
         (λ n. is_bypass n.kind)) (has_system packet.now.mark) }
 {
     if has_system(packet) {
-        ask_bypass_named(state, packet)
+        ask_named(Naming::Bypassable, state, packet)
     } else {
         None
     }

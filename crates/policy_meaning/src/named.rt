@@ -3,19 +3,18 @@ ghost use Rattle.std.specs.Prelude.{◌≡◌};
 ghost use Rattle.std.specs.Option.{option_map};
 ghost use Rattle.network_store.specs.Stored as stored;
 ghost use Rattle.fwmark.specs.Mark.{net_of};
-ghost use Rattle.networks.specs.Kinds.{is_free, is_secure, is_bypass};
 ghost use Rattle.networks.specs.Lists.{find_id};
 ghost use Rattle.policy_meaning.specs.Policy.{
   by_routes,
   may_reach,
   may_bind,
-  may_choose,
   asks_named,
   asks_bound,
   asks_local,
   asks_default,
   names_virtual,
 };
+ghost use Rattle.policy_meaning.specs.Named.{is_asked};
 ghost use Rattle.policy_state.specs.Rows.{default_of};
 
 use crate::asking::{ask, ask_link};
@@ -51,52 +50,37 @@ fn default_network(state: &State) -> Option<&StoredNetwork>
     state.networks().get(id)
 }
 
-/// What the secure VPN says that the mark names.
-pub fn ask_secure_named(state: &State, packet: &Packet) -> Option<Verdict>
-    ensures { result ≡ asks_named (by_routes packet.now) state.now packet.now
-        (λ n. is_secure n.kind) }
+/// Which networks a level asks of those that marks name.
+#[derive(Clone, Copy)]
+pub enum Naming {
+    /// The secure VPNs.
+    Secure,
+    /// The networks that ask for no permission.
+    Free,
+    /// The bypassable VPNs.
+    Bypassable,
+    /// Those that the packet may choose.
+    Chosen,
+}
+
+fn is_asked(naming: Naming, packet: &Packet, network: &StoredNetwork) -> bool
+    ensures { result ≡ is_asked naming packet.now (stored.net_of network.now) }
 {
-    let network = named(state, packet)?;
-    if network.kind.is_secure() {
-        ask(network, packet)
-    } else {
-        None
+    match naming {
+        Naming::Secure => network.kind.is_secure(),
+        Naming::Free => network.kind.is_free(),
+        Naming::Bypassable => network.kind.is_bypass(),
+        Naming::Chosen => may_choose(packet, network),
     }
 }
 
-/// What the network says that the mark names, where it asks for no permission.
-pub fn ask_free_named(state: &State, packet: &Packet) -> Option<Verdict>
+/// What the network says that the mark names, where the level asks it.
+pub fn ask_named(naming: Naming, state: &State, packet: &Packet) -> Option<Verdict>
     ensures { result ≡ asks_named (by_routes packet.now) state.now packet.now
-        (λ n. is_free n.kind) }
+        (is_asked naming packet.now) }
 {
     let network = named(state, packet)?;
-    if network.kind.is_free() {
-        ask(network, packet)
-    } else {
-        None
-    }
-}
-
-/// What the bypassable VPN says that the mark names.
-pub fn ask_bypass_named(state: &State, packet: &Packet) -> Option<Verdict>
-    ensures { result ≡ asks_named (by_routes packet.now) state.now packet.now
-        (λ n. is_bypass n.kind) }
-{
-    let network = named(state, packet)?;
-    if network.kind.is_bypass() {
-        ask(network, packet)
-    } else {
-        None
-    }
-}
-
-/// What the network says that the mark names, where the packet may choose it.
-pub fn ask_choice(state: &State, packet: &Packet) -> Option<Verdict>
-    ensures { result ≡ asks_named (by_routes packet.now) state.now packet.now
-        (may_choose packet.now) }
-{
-    let network = named(state, packet)?;
-    if may_choose(packet, network) {
+    if is_asked(naming, packet, network) {
         ask(network, packet)
     } else {
         None

@@ -234,19 +234,23 @@ formed-ranges_come test class is not_local s net rank more formed accepted =
     (ltb-false most_ranges (length (ranges_of n.kind) + length more) room) free.1)
     (λ i h. h)
 
--- the default network
+-- the default network and tether pairs
 
-formed-default : (s : StateView) (default : Option ℕ) → IsWellFormed s → is_default_there s.networks default ≡ true → IsWellFormed (record s { default = default })
-formed-default s default formed there = record {
+formed-parts : (s : StateView) (pairs : List TetherPair) (default : Option ℕ) → IsWellFormed s → ArePairs s.links s.networks pairs → is_default_there s.networks default ≡ true
+    → IsWellFormed (record s { pairs = pairs; default = default })
+formed-parts s pairs default formed good there = record {
   links = formed.links;
   networks = formed.networks;
   interfaces = formed.interfaces;
   users = formed.users;
   lockdown_disjoint = formed.lockdown_disjoint;
   lockdown_few = formed.lockdown_few;
-  pairs = formed.pairs;
+  pairs = good;
   default = there;
 }
+
+formed-default : (s : StateView) (default : Option ℕ) → IsWellFormed s → is_default_there s.networks default ≡ true → IsWellFormed (record s { default = default })
+formed-default s default formed there = formed-parts s s.pairs default formed formed.pairs there
 
 formed-default_set : (s : StateView) (net : ℕ) → IsWellFormed s → first_that_holds (reasons s (command.DefaultSet net)) ≡ None → IsWellFormed (changed s (command.DefaultSet net))
 formed-default_set s net formed accepted =
@@ -299,16 +303,7 @@ formed-protect s uid formed accepted =
 -- tether pairs
 
 formed-pairs : (s : StateView) (pairs : List TetherPair) → IsWellFormed s → ArePairs s.links s.networks pairs → IsWellFormed (record s { pairs = pairs })
-formed-pairs s pairs formed good = record {
-  links = formed.links;
-  networks = formed.networks;
-  interfaces = formed.interfaces;
-  users = formed.users;
-  lockdown_disjoint = formed.lockdown_disjoint;
-  lockdown_few = formed.lockdown_few;
-  pairs = good;
-  default = formed.default;
-}
+formed-pairs s pairs formed good = formed-parts s pairs s.default formed good formed.default
 
 -- an interface of a network that isn't local
 may_be_output : (s : StateView) (link : ℕ) → is_in_any s link ≡ true → is_in_local s link ≡ false → is_output s.networks link ≡ true

@@ -14,14 +14,7 @@ use Rattle.list_lemmas.proofs.Anys.{any-map, length-filter-le, filter-others}
 use Rattle.networks.specs.Lists.{are_distinct}
 use Rattle.policy_state.specs.Good.{AreLinks, are_names_distinct, most_links}
 use Rattle.link_table.specs.declared.link.Link.{Link}
-
-none-either : (p q : Link → Bool) (ls : List Link) → list_any (λ l. p l || q l) ls ≡ false → (list_any p ls ≡ false) × (list_any q ls ≡ false)
-none-either p q [] none = (refl, refl)
-none-either p q (l ∷ ls) none =
-    let parts = or_parts (p l || q l) (list_any (λ m. p m || q m) ls) none in
-    let here = or_parts (p l) (q l) parts.0 in
-    let rest = none-either p q ls parts.1 in
-    (or_from _ _ here.0 rest.0, or_from _ _ here.1 rest.1)
+use Rattle.link_table.proofs.LinkMaps.{none-either}
 
 pub links-add : (ls : List Link) (name : List ℕ) (index : ℕ) → AreLinks ls → 2 ≤ index → index < 65536
     → list_any (λ l. bytes_eq l.name name || l.index == index) ls ≡ false → length ls < most_links → AreLinks (ls ++ record { name = name; index = index } ∷ [])

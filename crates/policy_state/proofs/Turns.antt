@@ -14,7 +14,7 @@ use Rattle.networks.specs.Network.{has_link}
 use Rattle.networks.specs.declared.kind.Kind.{Kind}
 use Rattle.networks.specs.declared.kind.Kind.TheVariants as kind
 use Rattle.policy_state.specs.Good.{IsWellFormed}
-use Rattle.policy_state.specs.Step.{with_net, with_link, with_permission, with_ranges, without_ranges, asking_for, kind_with, kind_without, is_in}
+use Rattle.policy_state.specs.Step.{with_net, with_link, with_permission, with_ranges, without_ranges, asking_for, is_in}
 use Rattle.policy_state.specs.View.{StateView, Network}
 use Rattle.policy_state.proofs.NetworkChanges.{with_change, untouched, ids-distinct}
 use Rattle.policy_state.proofs.Owners.{Has}
@@ -70,16 +70,6 @@ permitted permission kind.Local = refl
 permitted permission (kind.Physical old apps) = refl
 permitted permission (kind.Virtual secure users) = refl
 
-ranged : (rank : ℕ) (more : List UidRange) (k : Kind) → stored.kind_with rank more k ≡ kind_with rank more k
-ranged rank more kind.Local = refl
-ranged rank more (kind.Physical permission apps) = refl
-ranged rank more (kind.Virtual secure users) = refl
-
-unranged : (gone : List UidRange) (k : Kind) → stored.kind_without gone k ≡ kind_without gone k
-unranged gone kind.Local = refl
-unranged gone (kind.Physical permission apps) = refl
-unranged gone (kind.Virtual secure users) = refl
-
 module _ (s : StateView) (formed : IsWellFormed s) (net : ℕ) where
   changed-by : (f g : Network → Network) → ((n : Network) → Has s.networks n → f n ≡ g n) → record s { networks = stored_with_net net f s.networks } ≡ with_net net g s
   changed-by f g alike = ap (λ ns. record s { networks = ns }) (first-is-each net f g s.networks (ids-distinct s formed) alike)
@@ -96,11 +86,11 @@ module _ (s : StateView) (formed : IsWellFormed s) (net : ℕ) where
   pub changed-permission : (permission : Permission) → record s { networks = stored_with_net net (stored.with_permission permission) s.networks } ≡ with_net net (with_permission permission) s
   changed-permission permission = changed-by (stored.with_permission permission) (with_permission permission) (λ n there. ap (λ k. record n { kind = k }) (permitted permission n.kind))
 
-  pub changed-ranges : (rank : ℕ) (more : List UidRange) → record s { networks = stored_with_net net (stored.with_ranges rank more) s.networks } ≡ with_net net (with_ranges rank more) s
-  changed-ranges rank more = changed-by (stored.with_ranges rank more) (with_ranges rank more) (λ n there. ap (λ k. record n { kind = k }) (ranged rank more n.kind))
+  pub changed-ranges : (rank : ℕ) (more : List UidRange) → record s { networks = stored_with_net net (with_ranges rank more) s.networks } ≡ with_net net (with_ranges rank more) s
+  changed-ranges rank more = changed-alike (with_ranges rank more)
 
-  pub changed-gone : (gone : List UidRange) → record s { networks = stored_with_net net (stored.without_ranges gone) s.networks } ≡ with_net net (without_ranges gone) s
-  changed-gone gone = changed-by (stored.without_ranges gone) (without_ranges gone) (λ n there. ap (λ k. record n { kind = k }) (unranged gone n.kind))
+  pub changed-gone : (gone : List UidRange) → record s { networks = stored_with_net net (without_ranges gone) s.networks } ≡ with_net net (without_ranges gone) s
+  changed-gone gone = changed-alike (without_ranges gone)
 
   pub dropped : drop_net net s.networks ≡ filter (λ n. not (net == n.id)) s.networks
   dropped = first-dropped net s.networks (ids-distinct s formed)

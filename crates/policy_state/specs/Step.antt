@@ -6,6 +6,8 @@ use Rattle.fib_table.specs.Table.{has_key}
 use Rattle.fwmark.specs.declared.permission.Permission.{Permission}
 use Rattle.net_names.specs.declared.code.Code.{Code}
 use Rattle.net_names.specs.declared.code.Code.TheVariants as code
+-- a network's ranges are the apps of a physical network or the users of a VPN
+pub use Rattle.network_store.specs.Stored.{kind_with, kind_without, with_ranges, without_ranges}
 use Rattle.networks.specs.Lists.{find_id, find_link}
 use Rattle.networks.specs.Network.{has_link, local_id, routes_by, is_keyed_by}
 use Rattle.networks.specs.declared.network.Network.{Network}
@@ -294,24 +296,6 @@ without_link link n = record n {
   interfaces = filter (λ i. not (i == link)) n.interfaces;
   routes = filter (λ r. not (r.link == link)) n.routes;
 }
-
--- a network's ranges are the apps of a physical network or the users of a VPN
-
-abbrev pub kind_with : ℕ → List UidRange → Kind → Kind
-kind_with rank more kind.Local = kind.Local
-kind_with rank more (kind.Physical permission apps) = kind.Physical permission (apps ++ all_at rank more)
-kind_with rank more (kind.Virtual secure users) = kind.Virtual secure (users ++ all_at rank more)
-
-abbrev pub kind_without : List UidRange → Kind → Kind
-kind_without gone kind.Local = kind.Local
-kind_without gone (kind.Physical permission apps) = kind.Physical permission (ranked_without apps gone)
-kind_without gone (kind.Virtual secure users) = kind.Virtual secure (ranked_without users gone)
-
-abbrev pub with_ranges : ℕ → List UidRange → Network → Network
-with_ranges rank more n = record n { kind = kind_with rank more n.kind }
-
-abbrev pub without_ranges : List UidRange → Network → Network
-without_ranges gone n = record n { kind = kind_without gone n.kind }
 
 -- a network without interfaces, routes and ranges goes last
 abbrev pub with_new_net : ℕ → Kind → StateView → StateView
