@@ -37,6 +37,32 @@ use Rattle.rule_compile.proofs.TouchedKinds.{net-cut, split-stays, split-turns, 
 use Rattle.rule_compile.proofs.TouchedUsers.{ranges-come, ranges-go, permission-turns, permission-stays}
 use Rattle.rule_compile.proofs.TouchedStates.{network-comes, network-goes, default-turns, default-same, lists-cut}
 
+-- what no row has rules for may be anything: the links, the users' permissions and who may protect sockets
+unseen-cut : (s t : StateView) → t ≡ record s { links = t.links; permissions = t.permissions; protectable = t.protectable } → IsCut s t no_part no_part
+unseen-cut s t is = same-items s t (λ per. ap (items per) is ∙ at per)
+  where
+    at : (per : OnePer) → items per (record s { links = t.links; permissions = t.permissions; protectable = t.protectable }) ≡ items per s
+    at Once = refl
+    at EachLockdown = refl
+    at EachPair = refl
+    at (EachOf pick spread) = refl
+
+-- the part of a network, or none
+abbrev if_there : (Network → Part) → Option Network → Part
+if_there part o = elim o [ Some n ↦ part n | None ↦ no_part ]
+
+abbrev nowhere : Option Network → Part
+nowhere o = no_part
+
+-- a change of one network, by whether there is one of this id
+of-net-cut : (s t : StateView) (net : ℕ) (gone come : Option Network → Part) → ((n : Network) → find_id net s.networks ≡ Some n → IsCut s t (gone (Some n)) (come (Some n)))
+    → (find_id net s.networks ≡ None → IsCut s t (gone None) (come None)) → IsCut s t (gone (find_id net s.networks)) (come (find_id net s.networks))
+of-net-cut s t net gone come there unknown = by (find_id net s.networks) refl
+  where
+    by : (o : Option Network) → find_id net s.networks ≡ o → IsCut s t (gone o) (come o)
+    by (Some n) at = there n at
+    by None none = unknown none
+
 -- Changes of networks that aren't there.
 
 unknown-stays : (net : ℕ) (change : Network → Network) (ns : List Network) → find_id net ns ≡ None → map (change_at net change) ns ≡ ns
@@ -121,108 +147,59 @@ module _ (s : StateView) (formed : IsWellFormed s) where
 
 pub touched-cut : (c : Change) (s : StateView) → IsWellFormed s → Fits c s → IsCut s (turned c s) (go_part s c) (come_part s c)
 touched-cut change.Nothing s formed fits = same-cut s s refl
-touched-cut (change.LinkComes link) s formed fits = same-items s (turned (change.LinkComes link) s) at
-  where
-    at : (per : OnePer) → items per (turned (change.LinkComes link) s) ≡ items per s
-    at Once = refl
-    at EachLockdown = refl
-    at EachPair = refl
-    at (EachOf pick spread) = refl
-touched-cut (change.LinkGoes name) s formed fits = same-items s (turned (change.LinkGoes name) s) at
-  where
-    at : (per : OnePer) → items per (turned (change.LinkGoes name) s) ≡ items per s
-    at Once = refl
-    at EachLockdown = refl
-    at EachPair = refl
-    at (EachOf pick spread) = refl
+touched-cut (change.LinkComes link) s formed fits = unseen-cut s (turned (change.LinkComes link) s) refl
+touched-cut (change.LinkGoes name) s formed fits = unseen-cut s (turned (change.LinkGoes name) s) refl
 touched-cut (change.PhysicalComes net permission) s formed fits = network-comes s formed net (kind.Physical permission []) fits
 touched-cut (change.VirtualComes net secure) s formed fits = network-comes s formed net (kind.Virtual secure []) fits
-touched-cut (change.NetworkGoes net) s formed fits = by (find_id net s.networks) refl
-  where
-    by : (o : Option Network) → find_id net s.networks ≡ o → IsCut s (without_net net s) (elim o [ Some n ↦ gone_part s n | None ↦ no_part ]) no_part
-    by (Some n) at = network-goes s formed net n at
-    by None none = same-cut s (without_net net s) (unknown-goes s formed net none)
-touched-cut (change.InterfaceComes net link) s formed fits = by (find_id net s.networks) refl
-  where
-    by : (o : Option Network) → find_id net s.networks ≡ o → IsCut s (with_net net (with_link link) s) no_part (elim o [ Some n ↦ link_part s n link | None ↦ no_part ])
-    by (Some n) at = link-comes s formed net link n at (find-none (λ (m : Network). has_link m link) s.networks n fits.free (found-one s formed net n at).there)
-    by None none = unknown-cut s formed net (with_link link) none
-touched-cut (change.InterfaceGoes net link) s formed fits = by (find_id net s.networks) refl
+touched-cut (change.NetworkGoes net) s formed fits = of-net-cut s (without_net net s) net (if_there (gone_part s)) nowhere (network-goes s formed net)
+    (λ none. same-cut s (without_net net s) (unknown-goes s formed net none))
+touched-cut (change.InterfaceComes net link) s formed fits = of-net-cut s (with_net net (with_link link) s) net nowhere (if_there (λ n. link_part s n link))
+    (λ n at. link-comes s formed net link n at (find-none (λ (m : Network). has_link m link) s.networks n fits.free (found-one s formed net n at).there)) (unknown-cut s formed net (with_link link))
+touched-cut (change.InterfaceGoes net link) s formed fits = of-net-cut s (without_interface net link s) net (if_there part) nowhere there unknown
   where
     part : Network → Part
     part n = record (link_part s n link) { pairs = filter (λ p. p.out == link) s.pairs }
 
-    by : (o : Option Network) → find_id net s.networks ≡ o → IsCut s (without_interface net link s) (elim o [ Some n ↦ part n | None ↦ no_part ]) no_part
-    by (Some n) at =
+    is : (b : Bool) → is_in s net link ≡ b → without_interface net link s ≡ (if b then record (with_net net (without_link link) s) { pairs = filter (λ p. not (p.out == link)) s.pairs } else s)
+    is b in_net = ap (λ (b : Bool). if b then record (with_net net (without_link link) s) { pairs = filter (λ p. not (p.out == link)) s.pairs } else s) in_net
+
+    there : (n : Network) → find_id net s.networks ≡ Some n → IsCut s (without_interface net link s) (part n) no_part
+    there n at =
         let has : has_link n link ≡ true = owner-has s formed net link n at fits in
-        let in_net : is_in s net link ≡ true = ap (λ o. elim o [ Some m ↦ has_link m link | None ↦ false ]) at ∙ has in
-        subst (λ (t : StateView). IsCut s t (part n) no_part)
-        (sym (ap (λ (b : Bool). if b then record (with_net net (without_link link) s) { pairs = filter (λ p. not (p.out == link)) s.pairs } else s) in_net))
-        (link-goes s formed net link n at (link-has n link has))
-    by None none =
-        let not_in : is_in s net link ≡ false = ap (λ o. elim o [ Some m ↦ has_link m link | None ↦ false ]) none in
-        same-cut s (without_interface net link s) (ap (λ (b : Bool). if b then record (with_net net (without_link link) s) { pairs = filter (λ p. not (p.out == link)) s.pairs } else s) not_in)
+        subst (λ (t : StateView). IsCut s t (part n) no_part) (sym (is true (ap (λ o. elim o [ Some m ↦ has_link m link | None ↦ false ]) at ∙ has))) (link-goes s formed net link n at (link-has n link has))
+
+    unknown : find_id net s.networks ≡ None → IsCut s (without_interface net link s) no_part no_part
+    unknown none = same-cut s (without_interface net link s) (is false (ap (λ o. elim o [ Some m ↦ has_link m link | None ↦ false ]) none))
 touched-cut (change.RouteComes net link route) s formed fits = routes-cut s formed net (with_route link route) (λ m. m.routes ++ record { link = link; route = route } ∷ []) (λ m. refl)
 touched-cut (change.RouteGoes net link key) s formed fits = routes-cut s formed net (without_route link key) (λ m. (without_route link key m).routes) (λ m. refl)
-touched-cut (change.RangesCome net rank ranges) s formed fits = by (find_id net s.networks) refl
-  where
-    by : (o : Option Network) → find_id net s.networks ≡ o → IsCut s (with_net net (with_ranges rank ranges.now) s) no_part (elim o [ Some n ↦ ranges_part s n (all_at rank ranges.now) | None ↦ no_part ])
-    by (Some n) at = ranges-come s formed net n at rank ranges.now
-    by None none = unknown-cut s formed net (with_ranges rank ranges.now) none
-touched-cut (change.RangesGo net ranges) s formed fits = by (find_id net s.networks) refl
-  where
-    by : (o : Option Network) → find_id net s.networks ≡ o
-        → IsCut s (with_net net (without_ranges ranges.now) s) (elim o [ Some n ↦ ranges_part s n (filter (λ r. has ranges.now r.users) (kinds.ranges_of n.kind)) | None ↦ no_part ]) no_part
-    by (Some n) at = ranges-go s formed net n at ranges.now
-    by None none = unknown-cut s formed net (without_ranges ranges.now) none
+touched-cut (change.RangesCome net rank ranges) s formed fits = of-net-cut s (with_net net (with_ranges rank ranges.now) s) net nowhere (if_there (λ n. ranges_part s n (all_at rank ranges.now)))
+    (λ n at. ranges-come s formed net n at rank ranges.now) (unknown-cut s formed net (with_ranges rank ranges.now))
+touched-cut (change.RangesGo net ranges) s formed fits = of-net-cut s (with_net net (without_ranges ranges.now) s) net (if_there (λ n. ranges_part s n (filter (λ r. has ranges.now r.users) (kinds.ranges_of n.kind)))) nowhere
+    (λ n at. ranges-go s formed net n at ranges.now) (unknown-cut s formed net (without_ranges ranges.now))
 touched-cut (change.DefaultBecomes default) s formed fits = by (same_default s.default default) refl
   where
     by : (b : Bool) → same_default s.default default ≡ b → IsCut s (record s { default = default }) (if b then no_part else default_part s s.default) (if b then no_part else default_part s default)
     by true same = default-same s formed default same
     by false other = default-turns s formed default
-touched-cut (change.NetworkPermission net permission) s formed fits = by (find_id net s.networks) refl
+touched-cut (change.NetworkPermission net permission) s formed fits =
+    of-net-cut s (with_net net (with_permission permission) s) net (if_there (λ n. part n (kinds.permission_of n.kind))) (if_there (λ n. part n permission))
+    (λ n at. there n at (asks_other permission n) refl) (unknown-cut s formed net (with_permission permission))
   where
     part : Network → Permission → Part
     part n asked = if asks_other permission n then asking_part s n asked else no_part
 
-    by : (o : Option Network) → find_id net s.networks ≡ o
-        → IsCut s (with_net net (with_permission permission) s) (elim o [ Some n ↦ part n (kinds.permission_of n.kind) | None ↦ no_part ]) (elim o [ Some n ↦ part n permission | None ↦ no_part ])
-    by (Some n) at = other (asks_other permission n) refl
-      where
-        other : (b : Bool) → asks_other permission n ≡ b
-            → IsCut s (with_net net (with_permission permission) s) (if b then asking_part s n (kinds.permission_of n.kind) else no_part) (if b then asking_part s n permission else no_part)
-        other true differs = permission-turns s formed net n at permission
-        other false same = permission-stays s formed net n at permission same
-    by None none = unknown-cut s formed net (with_permission permission) none
-touched-cut (change.UserPermission uid permission) s formed fits = same-items s (turned (change.UserPermission uid permission) s) at
+    there : (n : Network) → find_id net s.networks ≡ Some n → (b : Bool) → asks_other permission n ≡ b
+        → IsCut s (with_net net (with_permission permission) s) (if b then asking_part s n (kinds.permission_of n.kind) else no_part) (if b then asking_part s n permission else no_part)
+    there n at true differs = permission-turns s formed net n at permission
+    there n at false same = permission-stays s formed net n at permission same
+touched-cut (change.UserPermission uid permission) s formed fits = unseen-cut s (turned (change.UserPermission uid permission) s) refl
+touched-cut (change.UserForgotten uid) s formed fits = unseen-cut s (turned (change.UserForgotten uid) s) refl
+touched-cut (change.ProtectAllowed uid) s formed fits = by (is_protectable s uid)
   where
-    at : (per : OnePer) → items per (turned (change.UserPermission uid permission) s) ≡ items per s
-    at Once = refl
-    at EachLockdown = refl
-    at EachPair = refl
-    at (EachOf pick spread) = refl
-touched-cut (change.UserForgotten uid) s formed fits = same-items s (turned (change.UserForgotten uid) s) at
-  where
-    at : (per : OnePer) → items per (turned (change.UserForgotten uid) s) ≡ items per s
-    at Once = refl
-    at EachLockdown = refl
-    at EachPair = refl
-    at (EachOf pick spread) = refl
-touched-cut (change.ProtectAllowed uid) s formed fits = same-items s (turned (change.ProtectAllowed uid) s) (λ per. by per (is_protectable s uid))
-  where
-    by : (per : OnePer) (b : Bool) → items per (if b then s else record s { protectable = s.protectable ++ uid ∷ [] }) ≡ items per s
-    by per true = refl
-    by Once false = refl
-    by EachLockdown false = refl
-    by EachPair false = refl
-    by (EachOf pick spread) false = refl
-touched-cut (change.ProtectDenied uid) s formed fits = same-items s (turned (change.ProtectDenied uid) s) at
-  where
-    at : (per : OnePer) → items per (turned (change.ProtectDenied uid) s) ≡ items per s
-    at Once = refl
-    at EachLockdown = refl
-    at EachPair = refl
-    at (EachOf pick spread) = refl
+    by : (b : Bool) → IsCut s (if b then s else record s { protectable = s.protectable ++ uid ∷ [] }) no_part no_part
+    by true = same-cut s s refl
+    by false = unseen-cut s (record s { protectable = s.protectable ++ uid ∷ [] }) refl
+touched-cut (change.ProtectDenied uid) s formed fits = unseen-cut s (turned (change.ProtectDenied uid) s) refl
 touched-cut (change.LockdownComes range) s formed fits =
     lists-cut s formed (s.lockdown ++ range ∷ []) s.lockdown [] (range ∷ []) s.pairs s.pairs [] [] (all-stay s.lockdown) (cut-behind s.lockdown (range ∷ [])) (all-stay s.pairs) (all-stay s.pairs)
 touched-cut (change.LockdownGoes range) s formed fits =

@@ -1,139 +1,112 @@
 //! The rules that come and the rules that go with a change.
-ghost use Rattle.std.specs.Prelude.{◌≡◌, ◌==◌, [], filter, if◌then◌else◌, IfOk};
-ghost use Rattle.networks.specs.declared.kind.Kind.TheVariants as kind;
-ghost use Rattle.networks.specs.Kinds.{permission_of, ranges_of};
-ghost use Rattle.network_store.specs.Stored.{bare_net};
+ghost use Rattle.std.specs.Prelude.{◌≡◌, if◌then◌else◌, IfOk};
+ghost use Rattle.network_store.specs.Stored.{bare_net, net_of};
+ghost use Rattle.rule_compile.specs.PartOf.{net_part};
+ghost use Rattle.rule_compile.specs.Shapes.{shape_kind};
 ghost use Rattle.rule_compile.specs.Touched as parts;
-ghost use Rattle.uid_ranges.specs.Ranges.{has};
-ghost use Rattle.uid_ranges.specs.Ranks.{all_at};
 
 use crate::change_parts::{
     asking_part, asks_other, default_part, gone_part, link_part, new_part, pairs_by, pairs_like,
     pairs_of, ranges_among, ranges_like, ranges_part, ranked, same_default,
 };
+use crate::part::PartOfNetwork;
 use crate::shape::{Shape, ShapeKind};
 use crate::touched::{Touched, touched_rules, untouched};
 use fwmark::Permission;
+use network_store::StoredNetwork;
 use policy_state::{Change, State, TetherPair};
 use rule_match::Rule;
 use std::alloc::{AllocError, Global};
 use uid_ranges::UidRange;
 
-fn physical_comes(
+/// The rules of a network that comes, which has no interfaces yet.
+fn network_comes(
     alloc: Global,
     state: &State,
     net: u16,
-    permission: Permission,
+    kind: ShapeKind,
 ) -> Result<Vec<Rule>, AllocError>
     ensures { IfOk result (λ rules. rules.items ≡ parts.part_rules
-        (parts.new_part state.now (bare_net net (kind.Physical permission [])))) }
+        (parts.new_part state.now (bare_net net (shape_kind kind.entry)))) }
 {
     let network = Shape {
         id: net,
-        kind: ShapeKind::Physical {
-            permission,
-            apps: &[],
-        },
+        kind,
         links: &[],
     };
     touched_rules(alloc, &new_part(state, network))
 }
 
-fn virtual_comes(
+/// The rules of the network with this permission, where its own becomes another one.
+fn asking_rules(
     alloc: Global,
     state: &State,
-    net: u16,
-    secure: bool,
+    network: &StoredNetwork,
+    becomes: Permission,
+    asked: Permission,
 ) -> Result<Vec<Rule>, AllocError>
     ensures { IfOk result (λ rules. rules.items ≡ parts.part_rules
-        (parts.new_part state.now (bare_net net (kind.Virtual secure [])))) }
+        (if parts.asks_other becomes (net_of network.now) then
+        parts.asking_part state.now (net_of network.now) asked else parts.no_part)) }
 {
-    let network = Shape {
-        id: net,
-        kind: ShapeKind::Virtual { secure, users: &[] },
-        links: &[],
-    };
-    touched_rules(alloc, &new_part(state, network))
-}
-
-fn network_goes(alloc: Global, state: &State, net: u16) -> Result<Vec<Rule>, AllocError>
-    ensures { IfOk result (λ rules. rules.items ≡
-        parts.part_rules (parts.of_net state.now net (parts.gone_part state.now))) }
-{
-    let Some(network) = state.networks().get(net) else {
+    if !asks_other(network, becomes) {
         return Ok(Vec::new(alloc));
-    };
-    let pairs = pairs_of(alloc, state.pairs(), network)?;
-    touched_rules(alloc, &gone_part(state, network, &pairs))
+    }
+    touched_rules(alloc, &asking_part(state, network, asked))
 }
 
-fn interface_comes(
+fn stored_rules(
     alloc: Global,
     state: &State,
-    net: u16,
-    link: u16,
+    network: &StoredNetwork,
+    part: PartOfNetwork,
 ) -> Result<Vec<Rule>, AllocError>
     ensures { IfOk result (λ rules. rules.items ≡
-        parts.part_rules (parts.of_net state.now net (λ n. parts.link_part state.now n link))) }
+        parts.part_rules (net_part part.entry state.now (net_of network.now))) }
 {
-    let Some(network) = state.networks().get(net) else {
-        return Ok(Vec::new(alloc));
-    };
-    let links = [link];
-    touched_rules(alloc, &link_part(state, network, &links, &[]))
+    match part {
+        PartOfNetwork::Whole => {
+            let pairs = pairs_of(alloc, state.pairs(), network)?;
+            touched_rules(alloc, &gone_part(state, network, &pairs))
+        }
+        PartOfNetwork::Link { link } => {
+            touched_rules(alloc, &link_part(state, network, &[link], &[]))
+        }
+        PartOfNetwork::LinkAndPairs { link } => {
+            let pairs = pairs_by(alloc, state.pairs(), link)?;
+            touched_rules(alloc, &link_part(state, network, &[link], &pairs))
+        }
+        PartOfNetwork::RangesAt { rank, ranges } => {
+            let ranked = ranked(alloc, ranges, rank)?;
+            touched_rules(alloc, &ranges_part(state, network, &ranked))
+        }
+        PartOfNetwork::RangesAmong { ranges } => {
+            let among = ranges_among(alloc, &network.kind, ranges)?;
+            touched_rules(alloc, &ranges_part(state, network, &among))
+        }
+        PartOfNetwork::PermissionLeft { becomes } => {
+            asking_rules(alloc, state, network, becomes, network.kind.permission())
+        }
+        PartOfNetwork::PermissionGot { becomes } => {
+            asking_rules(alloc, state, network, becomes, becomes)
+        }
+    }
 }
 
-fn interface_goes(
+/// The rules of this part of the network of this id: none, if there is no such network.
+fn network_rules(
     alloc: Global,
     state: &State,
     net: u16,
-    link: u16,
+    part: PartOfNetwork,
 ) -> Result<Vec<Rule>, AllocError>
-    ensures { IfOk result (λ rules. rules.items ≡ parts.part_rules
-        (parts.of_net state.now net (λ n. record (parts.link_part state.now n link) {
-          pairs = filter (λ p. p.out == link) state.now.pairs;
-        }))) }
+    ensures { IfOk result (λ rules. rules.items ≡
+        parts.part_rules (parts.of_net state.now net (net_part part.entry state.now))) }
 {
-    let Some(network) = state.networks().get(net) else {
-        return Ok(Vec::new(alloc));
-    };
-    let pairs = pairs_by(alloc, state.pairs(), link)?;
-    let links = [link];
-    touched_rules(alloc, &link_part(state, network, &links, &pairs))
-}
-
-fn ranges_come(
-    alloc: Global,
-    state: &State,
-    net: u16,
-    rank: u8,
-    ranges: &[UidRange],
-) -> Result<Vec<Rule>, AllocError>
-    ensures { IfOk result (λ rules. rules.items ≡ parts.part_rules (parts.of_net state.now net
-        (λ n. parts.ranges_part state.now n (all_at rank ranges.now)))) }
-{
-    let Some(network) = state.networks().get(net) else {
-        return Ok(Vec::new(alloc));
-    };
-    let ranked = ranked(alloc, ranges, rank)?;
-    touched_rules(alloc, &ranges_part(state, network, &ranked))
-}
-
-fn ranges_go(
-    alloc: Global,
-    state: &State,
-    net: u16,
-    ranges: &[UidRange],
-) -> Result<Vec<Rule>, AllocError>
-    ensures { IfOk result (λ rules. rules.items ≡ parts.part_rules (parts.of_net state.now net
-        (λ n. parts.ranges_part state.now n
-        (filter (λ r. has ranges.now r.users) (ranges_of n.kind))))) }
-{
-    let Some(network) = state.networks().get(net) else {
-        return Ok(Vec::new(alloc));
-    };
-    let gone = ranges_among(alloc, &network.kind, ranges)?;
-    touched_rules(alloc, &ranges_part(state, network, &gone))
+    match state.networks().get(net) {
+        Some(network) => stored_rules(alloc, state, network, part),
+        None => Ok(Vec::new(alloc)),
+    }
 }
 
 /// The rules of the default network where it becomes another one than it is: of the one that it is, or becomes.
@@ -151,49 +124,6 @@ fn default_becomes(
         return Ok(Vec::new(alloc));
     }
     touched_rules(alloc, &default_part(state, default))
-}
-
-/// The rules of a network where its permission becomes another one: with the permission that it has.
-fn permission_goes(
-    alloc: Global,
-    state: &State,
-    net: u16,
-    permission: Permission,
-) -> Result<Vec<Rule>, AllocError>
-    ensures { IfOk result (λ rules. rules.items ≡ parts.part_rules (parts.of_net state.now net
-        (λ n. if parts.asks_other permission n then
-        parts.asking_part state.now n (permission_of n.kind) else parts.no_part))) }
-{
-    let Some(network) = state.networks().get(net) else {
-        return Ok(Vec::new(alloc));
-    };
-    if !asks_other(network, permission) {
-        return Ok(Vec::new(alloc));
-    }
-    touched_rules(
-        alloc,
-        &asking_part(state, network, network.kind.permission()),
-    )
-}
-
-/// And with the one that it gets.
-fn permission_comes(
-    alloc: Global,
-    state: &State,
-    net: u16,
-    permission: Permission,
-) -> Result<Vec<Rule>, AllocError>
-    ensures { IfOk result (λ rules. rules.items ≡ parts.part_rules (parts.of_net state.now net
-        (λ n. if parts.asks_other permission n then
-        parts.asking_part state.now n permission else parts.no_part))) }
-{
-    let Some(network) = state.networks().get(net) else {
-        return Ok(Vec::new(alloc));
-    };
-    if !asks_other(network, permission) {
-        return Ok(Vec::new(alloc));
-    }
-    touched_rules(alloc, &asking_part(state, network, permission))
 }
 
 fn lockdown_rules(alloc: Global, lockdown: &[UidRange]) -> Result<Vec<Rule>, AllocError>
@@ -228,14 +158,21 @@ pub(crate) fn rules_that_go(
         parts.part_rules (parts.go_part state.now change.now)) }
 {
     match *change {
-        Change::NetworkGoes { net } => network_goes(alloc, state, net),
-        Change::InterfaceGoes { net, link } => interface_goes(alloc, state, net, link),
-        Change::RangesGo { net, ranges } => ranges_go(alloc, state, net, ranges),
+        Change::NetworkGoes { net } => network_rules(alloc, state, net, PartOfNetwork::Whole),
+        Change::InterfaceGoes { net, link } => {
+            network_rules(alloc, state, net, PartOfNetwork::LinkAndPairs { link })
+        }
+        Change::RangesGo { net, ranges } => {
+            network_rules(alloc, state, net, PartOfNetwork::RangesAmong { ranges })
+        }
         Change::DefaultBecomes { default } => {
             default_becomes(alloc, state, default, state.default_net())
         }
         Change::NetworkPermission { net, permission } => {
-            permission_goes(alloc, state, net, permission)
+            let part = PartOfNetwork::PermissionLeft {
+                becomes: permission,
+            };
+            network_rules(alloc, state, net, part)
         }
         Change::LockdownGoes { range } => {
             let ranges = ranges_like(alloc, state.lockdown(), range)?;
@@ -273,13 +210,29 @@ pub(crate) fn rules_that_come(
         parts.part_rules (parts.come_part state.now change.now)) }
 {
     match *change {
-        Change::PhysicalComes { net, permission } => physical_comes(alloc, state, net, permission),
-        Change::VirtualComes { net, secure } => virtual_comes(alloc, state, net, secure),
-        Change::InterfaceComes { net, link } => interface_comes(alloc, state, net, link),
-        Change::RangesCome { net, rank, ranges } => ranges_come(alloc, state, net, rank, ranges),
+        Change::PhysicalComes { net, permission } => {
+            let kind = ShapeKind::Physical {
+                permission,
+                apps: &[],
+            };
+            network_comes(alloc, state, net, kind)
+        }
+        Change::VirtualComes { net, secure } => {
+            let kind = ShapeKind::Virtual { secure, users: &[] };
+            network_comes(alloc, state, net, kind)
+        }
+        Change::InterfaceComes { net, link } => {
+            network_rules(alloc, state, net, PartOfNetwork::Link { link })
+        }
+        Change::RangesCome { net, rank, ranges } => {
+            network_rules(alloc, state, net, PartOfNetwork::RangesAt { rank, ranges })
+        }
         Change::DefaultBecomes { default } => default_becomes(alloc, state, default, default),
         Change::NetworkPermission { net, permission } => {
-            permission_comes(alloc, state, net, permission)
+            let part = PartOfNetwork::PermissionGot {
+                becomes: permission,
+            };
+            network_rules(alloc, state, net, part)
         }
         Change::LockdownComes { range } => lockdown_rules(alloc, &[range]),
         Change::PairComes { pair } => pair_rules(alloc, &[pair]),
