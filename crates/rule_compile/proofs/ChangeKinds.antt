@@ -42,10 +42,11 @@ use Rattle.policy_state.proofs.EachOnce.{rows-once}
 use Rattle.policy_state.proofs.RowTests.{is_split, rows_told, each_single_fit}
 use Rattle.policy_state.proofs.Tables.{table-is}
 use Rattle.rule_compile.proofs.Changes.{GetsMore, Left, Shrinks, Touches, more_users, with_users}
-use Rattle.rule_compile.proofs.Comes.{picks-same, interface-comes, users-come-turn}
+use Rattle.rule_compile.proofs.Comes.{interface-comes, more-like, users-come-turn}
 use Rattle.rule_compile.proofs.Growing.{gets-more, lockdown-comes, pair-comes}
 use Rattle.rule_compile.proofs.Defaults.{default-turns}
 use Rattle.rule_compile.proofs.Needs.{permission-turns}
+use Rattle.rule_compile.proofs.Picking.{picks-same}
 use Rattle.rule_compile.proofs.Shrinking.{IsLeft, IsLeftDefault, left-same, left-none, left-filter, left-map, networks-left, table-shrinks, shrinks-lockdown, shrinks-pairs}
 
 abbrev pub TableTurns : StateView → StateView → Type 0
@@ -341,18 +342,13 @@ module _ (net : ℕ) (more : List Ranked) where
   used-kept : (n : Network) → IsKept n (used n)
   used-kept n = by (net == n.id)
     where
-      class-kept : (k : Kind) → class_of (more_users more k) ≡ class_of k
-      class-kept kind.Local = refl
-      class-kept (kind.Physical permission apps) = refl
-      class-kept (kind.Virtual secure users) = refl
-
       ranges-kept : (k : Kind) (r : Ranked) → Has (ranges_of k) r → Has (ranges_of (more_users more k)) r
       ranges-kept kind.Local r h = h
       ranges-kept (kind.Physical permission apps) r h = has_front apps more r h
       ranges-kept (kind.Virtual secure users) r h = has_front users more r h
 
       by : (b : Bool) → IsKept n (if b then with_users more n else n)
-      by true = record { id = refl; network_class = class-kept n.kind; links = λ link h. h; ranges = ranges-kept n.kind }
+      by true = record { id = refl; network_class = (more-like more n.kind).class; links = λ link h. h; ranges = ranges-kept n.kind }
       by false = record { id = refl; network_class = refl; links = λ link h. h; ranges = λ r h. h }
 
   more-ranges : (k : Kind) → kinds.is_local k ≡ false → ranges_of (more_users more k) ≡ ranges_of k ++ more

@@ -1,6 +1,6 @@
 -- Changes that touch networks, each for all rows: an interface comes, users come, a permission is replaced.
 use Rattle.std.proofs.Common.{◌≡◌, ◌∙◌, ℕ, Bool, true, false, Some, None, List, [], ◌∷◌, ◌++◌, refl, sym, ap, subst, map}
-use Rattle.std.specs.Prelude.{◌&&◌, ◌||◌, ◌==◌, flat_map, Option, if◌then◌else◌}
+use Rattle.std.specs.Prelude.{◌||◌, ◌==◌, flat_map, if◌then◌else◌}
 use Rattle.std.proofs.lemmas.Bool.{false≢true, and_parts}
 use Rattle.rule_law.specs.Parts.{TurnsInto}
 use Rattle.rule_law.proofs.Turning.{TurnsInto-same}
@@ -19,15 +19,14 @@ use Rattle.networks.specs.declared.kind.Kind.{Kind}
 use Rattle.networks.specs.declared.kind.Kind.TheVariants.{Local, Physical, Virtual}
 use Rattle.networks.specs.declared.network.Network.{Network}
 use Rattle.policy_state.specs.View.{StateView}
-use Rattle.policy_state.specs.Rows.{default_of, items_in, picks, links_of, needs_of, is_default, user_item}
+use Rattle.policy_state.specs.Rows.{default_of, items_in, picks, links_of, needs_of, user_item}
 use Rattle.policy_state.specs.declared.row.Item.{Item}
 use Rattle.policy_state.specs.declared.row.Row.{Row}
 use Rattle.policy_state.specs.declared.row.NetworkSet.{NetworkSet}
-use Rattle.policy_state.specs.declared.row.NetworkSet.TheVariants.{OfLocal, OfPhysical, OfFree, OfDefault, OfVirtual, OfSecure, OfBypass}
 use Rattle.policy_state.specs.declared.row.NetworkPart.{NetworkPart}
 use Rattle.policy_state.specs.declared.row.NetworkPart.TheVariants.{Whole, EachInterface, EachRange, EachDefault}
 use Rattle.policy_state.specs.declared.row.OnePer.TheVariants.{EachOf}
-use Rattle.networks.specs.Kinds.{class_of, is_free, is_secure, is_bypass, permission_of, ranges_of}
+use Rattle.networks.specs.Kinds.{ranges_of}
 use Rattle.policy_state.specs.Table.{rule_of, rows, table_by_rows}
 use Rattle.policy_state.proofs.RowTests.{is_fit, is_own, is_ranged, is_split, shows_link, knows_net, is_single, is_to_link, tells_item, each_fit, each_single}
 use Rattle.policy_state.proofs.Owners.{Has, Once, Owners}
@@ -37,50 +36,13 @@ use Rattle.policy_state.proofs.EachOnce.{part-once}
 use Rattle.policy_state.proofs.OneNetwork.{own-users}
 use Rattle.policy_state.proofs.SharedPackets.{holds_first}
 use Rattle.rule_compile.proofs.Growing.{spread_over, users-come, once-apart, in-link, in-other, part-grows}
+use Rattle.rule_compile.proofs.Picking.{IsLike, picks-alike, picks-same}
 use Rattle.rule_compile.proofs.Turning.{networks-turn}
 
--- what a network is picked by is its id and its kind
-pub picks-same : (pick : NetworkSet) (default : Option ℕ) (m n : Network) → m.id ≡ n.id → m.kind ≡ n.kind → picks pick default m ≡ picks pick default n
-picks-same OfLocal default m n id kind = ap (λ k. class_of k == 0) kind
-picks-same OfPhysical default m n id kind = ap (λ k. class_of k == 1) kind
-picks-same OfFree default m n id kind = ap (λ k. is_free k) kind
-picks-same OfDefault default m n id kind =
-    ap (λ k. (class_of k == 1) && is_default default m.id) kind ∙ ap (λ i. (class_of n.kind == 1) && is_default default i) id
-picks-same OfVirtual default m n id kind = ap (λ k. class_of k == 2) kind
-picks-same OfSecure default m n id kind = ap (λ k. is_secure k) kind
-picks-same OfBypass default m n id kind = ap (λ k. is_bypass k) kind
-
-permission-same : (more : List Ranked) (k : Kind) → permission_of (more_users more k) ≡ permission_of k
-permission-same more Local = refl
-permission-same more (Physical permission apps) = refl
-permission-same more (Virtual secure users) = refl
-
-picked-kind : (pick : NetworkSet) (default : Option ℕ) (n : Network) (more : List Ranked) (k : Kind) → n.kind ≡ k → picks pick default (with_users more n) ≡ picks pick default n
-picked-kind pick default n more k is =
-    ap (λ (j : Kind). picks pick default (record n { kind = more_users more j })) is ∙ (by pick k ∙ ap (λ (j : Kind). picks pick default (record n { kind = j })) (sym is))
-  where
-    by : (pick : NetworkSet) (k : Kind) → picks pick default (record n { kind = more_users more k }) ≡ picks pick default (record n { kind = k })
-    by OfLocal Local = refl
-    by OfLocal (Physical permission apps) = refl
-    by OfLocal (Virtual secure users) = refl
-    by OfPhysical Local = refl
-    by OfPhysical (Physical permission apps) = refl
-    by OfPhysical (Virtual secure users) = refl
-    by OfFree Local = refl
-    by OfFree (Physical permission apps) = refl
-    by OfFree (Virtual secure users) = refl
-    by OfDefault Local = refl
-    by OfDefault (Physical permission apps) = refl
-    by OfDefault (Virtual secure users) = refl
-    by OfVirtual Local = refl
-    by OfVirtual (Physical permission apps) = refl
-    by OfVirtual (Virtual secure users) = refl
-    by OfSecure Local = refl
-    by OfSecure (Physical permission apps) = refl
-    by OfSecure (Virtual secure users) = refl
-    by OfBypass Local = refl
-    by OfBypass (Physical permission apps) = refl
-    by OfBypass (Virtual secure users) = refl
+pub more-like : (more : List Ranked) (k : Kind) → IsLike (more_users more k) k
+more-like more Local = record { class = refl; permission = refl; free = refl; secure = refl; bypass = refl }
+more-like more (Physical permission apps) = record { class = refl; permission = refl; free = refl; secure = refl; bypass = refl }
+more-like more (Virtual secure users) = record { class = refl; permission = refl; free = refl; secure = refl; bypass = refl }
 
 module _ (o : Owners) (s t : StateView) (change : Network → Network) (touches : Touches o s t change) where
   pub touched-turn : ((row : Row) (pick : NetworkSet) (spread : NetworkPart) → Has rows row → row.per ≡ EachOf pick spread → (n : Network) → Has s.networks n
@@ -143,15 +105,15 @@ module _ (o : Owners) (s t : StateView) (net : ℕ) (more : List Ranked) (touche
 
   -- but for the network's users the items stay
   items-stay : (spread : NetworkPart) (n : Network) → is_ranged spread ≡ false → items_in spread (default_of t) (with_users more n) ≡ items_in spread (default_of s) n
-  items-stay Whole n plain = ap (λ (p : Permission). let it : Item = record { net = n.id; needs = p; incoming = 0; link = 0; users = None; rank = 0 } in it ∷ []) (permission-same more n.kind)
-  items-stay EachInterface n plain = ap (λ (p : Permission). map (λ (link : ℕ). let it : Item = record { net = n.id; needs = p; incoming = link; link = link; users = None; rank = 0 } in it) n.interfaces) (permission-same more n.kind)
+  items-stay Whole n plain = ap (λ (p : Permission). let it : Item = record { net = n.id; needs = p; incoming = 0; link = 0; users = None; rank = 0 } in it ∷ []) (more-like more n.kind).permission
+  items-stay EachInterface n plain = ap (λ (p : Permission). map (λ (link : ℕ). let it : Item = record { net = n.id; needs = p; incoming = link; link = link; users = None; rank = 0 } in it) n.interfaces) (more-like more n.kind).permission
   items-stay EachRange n plain = absurd (false≢true (sym plain))
   items-stay EachDefault n plain = home n EachDefault refl
 
   users-are : (n : Network) → ranges_of (more_users more n.kind) ≡ ranges_of n.kind ++ more
       → items_in EachRange (default_of t) (with_users more n) ≡ flat_map (λ link. map (user_item n link) (ranges_of n.kind ++ more)) n.interfaces
   users-are n ranges =
-      ap (λ (p : Permission). flat_map (λ (link : ℕ). map (λ (r : Ranked). let it : Item = record { net = n.id; needs = p; incoming = link; link = link; users = Some r.users; rank = r.rank } in it) (ranges_of (more_users more n.kind))) n.interfaces) (permission-same more n.kind)
+      ap (λ (p : Permission). flat_map (λ (link : ℕ). map (λ (r : Ranked). let it : Item = record { net = n.id; needs = p; incoming = link; link = link; users = Some r.users; rank = r.rank } in it) (ranges_of (more_users more n.kind))) n.interfaces) (more-like more n.kind).permission
       ∙ ap (λ rs. flat_map (λ link. map (user_item n link) rs) n.interfaces) ranges
 
   unlike : (row : Row) (pick : NetworkSet) → is_own row.users ≡ true → (n : Network) → Has s.networks n → (net == n.id) ≡ true → (l k : ℕ) (r q : Ranked)
@@ -191,7 +153,7 @@ module _ (o : Owners) (s t : StateView) (net : ℕ) (more : List Ranked) (touche
       by : (row : Row) (pick : NetworkSet) (spread : NetworkPart) → is_single (EachOf pick spread) row ≡ true → (n : Network) → Has s.networks n → (b : Bool) → (net == n.id) ≡ b
           → TurnsInto rule_kind (part row pick spread s n) (part row pick spread t (if b then with_users more n else n))
       by row pick spread single n in_n true here =
-          let picked : picks pick t.default (with_users more n) ≡ picks pick s.default n = ap (λ d. picks pick d (with_users more n)) (sym touches.default) ∙ picked-kind pick s.default n more n.kind refl in
+          let picked : picks pick t.default (with_users more n) ≡ picks pick s.default n = ap (λ d. picks pick d (with_users more n)) (sym touches.default) ∙ picks-alike pick s.default (with_users more n) n refl (more-like more n.kind) in
           subst (λ b. TurnsInto rule_kind (part row pick spread s n) (map (rule_of row) (if b then items_in spread (default_of t) (with_users more n) else []))) (sym picked)
           (tested row (picks pick s.default n) (items_in spread (default_of s) n) (items_in spread (default_of t) (with_users more n)) (part-users row pick spread single n in_n here))
       by row pick spread single n in_n false other =

@@ -2,6 +2,7 @@ mod RuleLists
 mod Changes
 mod Turning
 mod Growing
+mod Picking
 mod Comes
 mod Needs
 mod Shrinking

@@ -3,18 +3,18 @@ use Rattle.std.proofs.Common.{◌≡◌, ◌∙◌, ◌==◌, ◌&&◌, ℕ, Boo
 use Rattle.std.specs.Prelude.{if◌then◌else◌}
 use Rattle.std.specs.Option.{option_map}
 use Rattle.std.proofs.lemmas.Bool.{cases_Bool, false≢true, false_from_ne_true, eqb-true, eq-eqb}
-use Rattle.networks.specs.Kinds.{class_of, is_free, is_secure, is_bypass}
+use Rattle.networks.specs.Kinds.{class_of, ranges_of}
 use Rattle.networks.specs.declared.kind.Kind.{Kind}
 use Rattle.networks.specs.declared.kind.Kind.TheVariants as kind
 use Rattle.networks.specs.declared.network.Network.{Network}
 use Rattle.uid_ranges.specs.Ranges.{has}
 use Rattle.uid_ranges.specs.declared.range.UidRange.{UidRange}
-use Rattle.policy_state.specs.Rows.{is_default, default_among, default_of, picks}
+use Rattle.policy_state.specs.Rows.{default_among, default_of}
 use Rattle.policy_state.specs.Step.{with_net, without_net, without_link, is_in, kind_without, without_ranges}
 use Rattle.policy_state.specs.View.{StateView}
-use Rattle.policy_state.specs.declared.row.NetworkSet.{NetworkSet}
-use Rattle.policy_state.specs.declared.row.NetworkSet.TheVariants.{OfLocal, OfPhysical, OfFree, OfDefault, OfVirtual, OfSecure, OfBypass}
 use Rattle.rule_compile.proofs.ChangeKinds.{Thins, default-mapped, no-default, left-whole, left-interfaces, default-stays, default-goes}
+use Rattle.rule_compile.proofs.Changes.{Left, Nothing}
+use Rattle.rule_compile.proofs.Picking.{IsLike, picks-alike}
 use Rattle.rule_compile.proofs.Shrinking.{IsLeft, IsLeftDefault, left-same, left-filter}
 
 pub all-stay : {A : Type 0} (xs : List A) → filter (λ (x : A). true) xs ≡ xs
@@ -122,40 +122,31 @@ module _ (net : ℕ) (gone : List UidRange) where
   abbrev pub fewer : Network → Network
   fewer n = if net == n.id then without_ranges gone n else n
 
-  picked-alike : (pick : NetworkSet) (d : Option ℕ) (n : Network) (j k : Kind) → class_of j ≡ class_of k → is_free j ≡ is_free k → is_secure j ≡ is_secure k → is_bypass j ≡ is_bypass k
-      → picks pick d (record n { kind = j }) ≡ picks pick d (record n { kind = k })
-  picked-alike OfLocal d n j k classes free secure bypass = ap (λ c. c == 0) classes
-  picked-alike OfPhysical d n j k classes free secure bypass = ap (λ c. c == 1) classes
-  picked-alike OfFree d n j k classes free secure bypass = free
-  picked-alike OfDefault d n j k classes free secure bypass = ap (λ c. (c == 1) && is_default d n.id) classes
-  picked-alike OfVirtual d n j k classes free secure bypass = ap (λ c. c == 2) classes
-  picked-alike OfSecure d n j k classes free secure bypass = secure
-  picked-alike OfBypass d n j k classes free secure bypass = bypass
+  without-like : (k : Kind) → IsLike (kind_without gone k) k
+  without-like kind.Local = record { class = refl; permission = refl; free = refl; secure = refl; bypass = refl }
+  without-like (kind.Physical permission apps) = record { class = refl; permission = refl; free = refl; secure = refl; bypass = refl }
+  without-like (kind.Virtual secure users) = record { class = refl; permission = refl; free = refl; secure = refl; bypass = refl }
 
-  ranges-left : (n : Network) (k : Kind) → IsLeft (record n { kind = k }) (record n { kind = kind_without gone k })
-  ranges-left n kind.Local = left-whole (record n { kind = kind.Local })
-  ranges-left n (kind.Physical permission apps) = record {
+  without-ranges : (k : Kind) → Left (ranges_of k) (ranges_of (kind_without gone k))
+  without-ranges kind.Local = Nothing
+  without-ranges (kind.Physical permission apps) = left-filter (λ r. not (has gone r.users)) apps
+  without-ranges (kind.Virtual secure users) = left-filter (λ r. not (has gone r.users)) users
+
+  ranges-left : (n : Network) → IsLeft n (without_ranges gone n)
+  ranges-left n = record {
     id = refl;
-    kind = refl;
-    picked = λ pick d. picked-alike pick d n (kind_without gone (kind.Physical permission apps)) (kind.Physical permission apps) refl refl refl refl;
-    permission = refl;
+    kind = (without-like n.kind).class;
+    picked = λ pick d. picks-alike pick d (without_ranges gone n) n refl (without-like n.kind);
+    permission = (without-like n.kind).permission;
     interfaces = left-same n.interfaces;
-    ranges = left-filter (λ r. not (has gone r.users)) apps;
-  }
-  ranges-left n (kind.Virtual secure users) = record {
-    id = refl;
-    kind = refl;
-    picked = λ pick d. picked-alike pick d n (kind_without gone (kind.Virtual secure users)) (kind.Virtual secure users) refl refl refl refl;
-    permission = refl;
-    interfaces = left-same n.interfaces;
-    ranges = left-filter (λ r. not (has gone r.users)) users;
+    ranges = without-ranges n.kind;
   }
 
   fewer-left : (n : Network) → IsLeft n (fewer n)
   fewer-left n = by (net == n.id)
     where
       by : (b : Bool) → IsLeft n (if b then without_ranges gone n else n)
-      by true = ranges-left n n.kind
+      by true = ranges-left n
       by false = left-whole n
 
   pub ranges-thin : (s : StateView) → Thins s (with_net net (without_ranges gone) s) (λ n. true) fewer

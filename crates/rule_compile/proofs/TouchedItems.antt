@@ -1,18 +1,17 @@
 -- The items of one network, cut where it gets or loses an interface or ranges.
-use Rattle.std.proofs.Common.{◌≡◌, ◌∙◌, ◌==◌, ℕ, Bool, false, Option, Some, None, List, [], ◌∷◌, refl, sym, ap, subst, map}
-use Rattle.std.specs.Prelude.{◌&&◌, flat_map, if◌then◌else◌}
+use Rattle.std.proofs.Common.{◌≡◌, ◌∙◌, ℕ, Bool, false, Option, Some, None, List, [], ◌∷◌, refl, sym, subst, map}
+use Rattle.std.specs.Prelude.{flat_map, if◌then◌else◌}
 use Rattle.std.proofs.lemmas.Bool.{false≢true}
 use Rattle.fwmark.specs.declared.permission.Permission.{Permission}
-use Rattle.networks.specs.Kinds.{class_of, is_free, is_secure, is_bypass, permission_of, ranges_of}
+use Rattle.networks.specs.Kinds.{permission_of, ranges_of}
 use Rattle.networks.specs.declared.kind.Kind.{Kind}
 use Rattle.networks.specs.declared.kind.Kind.TheVariants as kind
 use Rattle.networks.specs.declared.network.LinkRoute.{LinkRoute}
 use Rattle.networks.specs.declared.network.Network.{Network}
-use Rattle.policy_state.specs.Rows.{is_default, picks, items_at}
+use Rattle.policy_state.specs.Rows.{picks, items_at}
 use Rattle.policy_state.specs.declared.row.Item.{Item}
 use Rattle.policy_state.specs.declared.row.NetworkSet.{NetworkSet}
 use Rattle.policy_state.specs.declared.row.NetworkPart.{NetworkPart}
-use Rattle.policy_state.specs.declared.row.NetworkSet.TheVariants.{OfLocal, OfPhysical, OfFree, OfDefault, OfVirtual, OfSecure, OfBypass}
 use Rattle.policy_state.specs.declared.row.NetworkPart.TheVariants.{Whole, EachInterface, EachRange, EachDefault}
 use Rattle.policy_state.specs.declared.row.OnePer.TheVariants.{EachOf}
 use Rattle.uid_ranges.specs.declared.ranked.Ranked.{Ranked}
@@ -21,6 +20,7 @@ use Rattle.policy_state.proofs.RowTests.{is_split}
 use Rattle.rule_compile.specs.Touched.{reaches, part_items, link_part, ranges_part, kind_having, with_ranges_alone}
 use Rattle.rule_compile.specs.declared.part.Extent.TheVariants as extent
 use Rattle.rule_compile.proofs.Cutting.{Cut, Ends, all-stay, cut-map, cut-over, cut-test, cut-each}
+use Rattle.rule_compile.proofs.Picking.{IsLike, picks-alike, picks-same}
 
 -- what a network gives a row that isn't split
 abbrev pub own : NetworkSet → NetworkPart → Option ℕ → Network → List Item
@@ -73,13 +73,7 @@ abbrev pub with_links : Network → List ℕ → List LinkRoute → Network
 with_links n links routes = record n { interfaces = links; routes = routes }
 
 pub picks-linked : (pick : NetworkSet) (d : Option ℕ) (n : Network) (links : List ℕ) (routes : List LinkRoute) → picks pick d (with_links n links routes) ≡ picks pick d n
-picks-linked OfLocal d n links routes = refl
-picks-linked OfPhysical d n links routes = refl
-picks-linked OfFree d n links routes = refl
-picks-linked OfDefault d n links routes = refl
-picks-linked OfVirtual d n links routes = refl
-picks-linked OfSecure d n links routes = refl
-picks-linked OfBypass d n links routes = refl
+picks-linked pick d n links routes = picks-same pick d (with_links n links routes) n refl refl
 
 own-linked : (pick : NetworkSet) (spread : NetworkPart) → is_split spread ≡ false → (d : Option ℕ) (n : Network) (links : List ℕ) (routes : List LinkRoute)
     → own pick spread d (with_links n links routes) ≡ made spread (picks pick d n) n.id (permission_of n.kind) links (ranges_of n.kind)
@@ -114,45 +108,16 @@ own-links s n link stay whole routes more cut pick spread plain =
 abbrev pub with_kind : Network → Kind → Network
 with_kind n k = record n { kind = k }
 
-pub having-class : (ranges : List Ranked) (k : Kind) → class_of (kind_having ranges k) ≡ class_of k
-having-class ranges kind.Local = refl
-having-class ranges (kind.Physical permission apps) = refl
-having-class ranges (kind.Virtual secure users) = refl
-
-pub having-permission : (ranges : List Ranked) (k : Kind) → permission_of (kind_having ranges k) ≡ permission_of k
-having-permission ranges kind.Local = refl
-having-permission ranges (kind.Physical permission apps) = refl
-having-permission ranges (kind.Virtual secure users) = refl
-
-having-free : (ranges : List Ranked) (k : Kind) → is_free (kind_having ranges k) ≡ is_free k
-having-free ranges kind.Local = refl
-having-free ranges (kind.Physical permission apps) = refl
-having-free ranges (kind.Virtual secure users) = refl
-
-having-secure : (ranges : List Ranked) (k : Kind) → is_secure (kind_having ranges k) ≡ is_secure k
-having-secure ranges kind.Local = refl
-having-secure ranges (kind.Physical permission apps) = refl
-having-secure ranges (kind.Virtual secure users) = refl
-
-having-bypass : (ranges : List Ranked) (k : Kind) → is_bypass (kind_having ranges k) ≡ is_bypass k
-having-bypass ranges kind.Local = refl
-having-bypass ranges (kind.Physical permission apps) = refl
-having-bypass ranges (kind.Virtual secure users) = refl
-
-picks-having : (pick : NetworkSet) (d : Option ℕ) (n : Network) (ranges : List Ranked) → picks pick d (with_ranges_alone ranges n) ≡ picks pick d n
-picks-having OfLocal d n ranges = ap (λ (c : ℕ). c == 0) (having-class ranges n.kind)
-picks-having OfPhysical d n ranges = ap (λ (c : ℕ). c == 1) (having-class ranges n.kind)
-picks-having OfFree d n ranges = having-free ranges n.kind
-picks-having OfDefault d n ranges = ap (λ (c : ℕ). (c == 1) && is_default d n.id) (having-class ranges n.kind)
-picks-having OfVirtual d n ranges = ap (λ (c : ℕ). c == 2) (having-class ranges n.kind)
-picks-having OfSecure d n ranges = having-secure ranges n.kind
-picks-having OfBypass d n ranges = having-bypass ranges n.kind
+pub having-like : (ranges : List Ranked) (k : Kind) → IsLike (kind_having ranges k) k
+having-like ranges kind.Local = record { class = refl; permission = refl; free = refl; secure = refl; bypass = refl }
+having-like ranges (kind.Physical permission apps) = record { class = refl; permission = refl; free = refl; secure = refl; bypass = refl }
+having-like ranges (kind.Virtual secure users) = record { class = refl; permission = refl; free = refl; secure = refl; bypass = refl }
 
 own-having : (pick : NetworkSet) (spread : NetworkPart) → is_split spread ≡ false → (d : Option ℕ) (n : Network) (ranges : List Ranked)
     → own pick spread d (with_ranges_alone ranges n) ≡ made spread (picks pick d n) n.id (permission_of n.kind) n.interfaces (ranges_of (kind_having ranges n.kind))
 own-having pick spread plain d n ranges =
     own-made pick spread plain d (with_ranges_alone ranges n) (picks pick d n) n.id (permission_of n.kind) n.interfaces (ranges_of (kind_having ranges n.kind))
-    (picks-having pick d n ranges) refl (having-permission ranges n.kind) refl refl
+    (picks-alike pick d (with_ranges_alone ranges n) n refl (having-like ranges n.kind)) refl (having-like ranges n.kind).permission refl refl
 
 part-having : (s : StateView) (n : Network) (ranges : List Ranked) (pick : NetworkSet) (spread : NetworkPart) → is_split spread ≡ false
     → part_items (EachOf pick spread) (ranges_part s n ranges)

@@ -30,7 +30,7 @@ use Rattle.rule_compile.proofs.Cutting.{Cut, all-stay, all-turn, cut-filter}
 use Rattle.rule_compile.proofs.Permissions.{same_bits}
 use Rattle.rule_compile.proofs.TouchedTables.{IsCut}
 use Rattle.rule_compile.proofs.TouchedNetworks.{found-one, change_at, split_at, split-none, cut-behind}
-use Rattle.rule_compile.proofs.TouchedItems.{own, own-ranges, having-class, having-permission}
+use Rattle.rule_compile.proofs.TouchedItems.{own, own-ranges, having-like}
 use Rattle.rule_compile.proofs.TouchedKinds.{net-cut, split-stays, split-turns, split-old, nothing-of, cut-none, same-cut}
 
 -- Ranges.
@@ -62,14 +62,14 @@ module _ (s : StateView) (formed : IsWellFormed s) (net : ℕ) (n : Network) (at
       id = ap (λ (m : Network). m.id) is
 
       class : class_of (change n).kind ≡ class_of n.kind
-      class = ap (λ (m : Network). class_of m.kind) is ∙ having-class ranges n.kind
+      class = ap (λ (m : Network). class_of m.kind) is ∙ (having-like ranges n.kind).class
 
       by : (b : Bool) → is_home s n ≡ b → items (EachOf OfVirtual EachDefault) (with_net net change s) ≡ items (EachOf OfVirtual EachDefault) s
       by false other = split-stays s formed net n at change id class other s.pairs
       by true home =
           split-turns s formed net n at change id class home s.pairs
           ∙ (ap (λ (m : Network). flat_map (split_at (Some m)) s.networks) is
-          ∙ (ap (λ (needed : Permission). flat_map (λ m. if class_of m.kind == 2 then map (split_item m needed) n.interfaces else []) s.networks) (having-permission ranges n.kind)
+          ∙ (ap (λ (needed : Permission). flat_map (λ m. if class_of m.kind == 2 then map (split_item m needed) n.interfaces else []) s.networks) (having-like ranges n.kind).permission
           ∙ sym (split-old s formed net n at change id class home)))
 
   part-split : (ranges : List Ranked) → part_items (EachOf OfVirtual EachDefault) (ranges_part s n ranges) ≡ []
