@@ -48,37 +48,3 @@ impl Mark {
             + (u32::from(self.upper) << 20)
     }
 }
-
-#[cfg(test)]
-mod tests {
-    use super::*;
-    use crate::permission::{Permission, suffices};
-
-    // Values of the rule table: system in the mark of network 200, the explicit local network,
-    // and the billed bit above what routing reads.
-    #[test]
-    fn reads_words(rt: HostRuntime) {
-        let system = Mark::of_bits(0xd00c8);
-        assert_eq!(rt;
-            (system.net, system.explicit, system.guarded),
-            (200, true, false)
-        );
-        assert_eq!(rt; (system.permission, system.upper), (3, 0));
-        let local = Mark::of_bits(0x10063);
-        assert_eq!(rt;
-            (local.net, local.explicit, local.permission),
-            (99, true, 0)
-        );
-        let billed = Mark::of_bits(MarkFlags::BILLED.bits() | MarkFlags::GUARDED.bits());
-        assert_eq!(rt; (billed.net, billed.guarded, billed.upper), (0, true, 1));
-        assert_eq!(rt; billed.bits(), 0x120000);
-    }
-
-    #[test]
-    fn two_bits_suffice(rt: HostRuntime) {
-        assert!(rt; suffices(2, Permission::Nothing));
-        assert!(rt; !suffices(2, Permission::Network));
-        assert!(rt; !suffices(2, Permission::System));
-        assert!(rt; suffices(3, Permission::Network));
-    }
-}

@@ -6,6 +6,3 @@ mod table;
 
 pub use link::Link;
 pub use table::LinkTable;
-
-#[cfg(test)]
-mod tests;

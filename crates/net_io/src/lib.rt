@@ -9,6 +9,3 @@ mod streams;
 pub use memory::{MemSink, MemSource};
 pub use standard::{StdSink, StdSource};
 pub use streams::{Failed, Sink, Source, WriteFault};
-
-#[cfg(test)]
-mod tests;

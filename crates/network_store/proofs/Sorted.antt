@@ -7,7 +7,7 @@ use Rattle.std.proofs.lemmas.Bool.Decides.{nat_tests}
 use Rattle.list_lemmas.proofs.Anys.{filter-others}
 use Rattle.list_lemmas.proofs.Found.{find-none-any}
 use Rattle.uid_ranges.specs.declared.ranked.Ranked.{Ranked}
-use Rattle.network_store.specs.RankIndex.{ends_before, holds_at, same_ranked, clash, comes_before, rise, are_low, put}
+use Rattle.network_store.specs.RankIndex.{ends_before, holds_at, same_ranked, clash, comes_before, rise, are_low, put, stands}
 use Rattle.network_store.specs.declared.rank_index.OwnedRange.{OwnedRange}
 
 -- facts of single ranges, by numbers
@@ -144,7 +144,7 @@ none-same r x (y ∷ ys) h all =
     ]
 
 abbrev pub cut : Ranked → List OwnedRange → ℕ → List OwnedRange
-cut r xs place = elim (slice_get xs place) [ Some e ↦ if same_ranked e.range r then remove xs place else xs | None ↦ xs ]
+cut r xs place = if stands r (slice_get xs place) then remove xs place else xs
 
 pub filter-cut : (r : Ranked) (xs : List OwnedRange) → rise xs ≡ true → filter (λ e. not (same_ranked e.range r)) xs ≡ cut r xs (prefix_len (λ e. ends_before r.rank r.users.first.number e.range) xs)
 filter-cut r [] rises = refl
@@ -170,15 +170,12 @@ filter-cut r (x ∷ xs) rises =
     one-more : (n : ℕ) → suc n ≡ 1 + n
     one-more n = omega arith
 
-    by : (n : ℕ) (o : Option OwnedRange) → slice_get xs n ≡ o → x ∷ (elim o [ Some e ↦ if same_ranked e.range r then remove xs n else xs | None ↦ xs ]) ≡ elim o [ Some e ↦ if same_ranked e.range r then remove (x ∷ xs) (suc n) else (x ∷ xs) | None ↦ x ∷ xs ]
-    by n None is = refl
-    by n (Some e) is = elim (cases_Bool (same_ranked e.range r)) as (λ _. x ∷ (if same_ranked e.range r then remove xs n else xs) ≡ (if same_ranked e.range r then remove (x ∷ xs) (suc n) else (x ∷ xs))) [
-      | inl s ↦ rw s refl
-      | inr s ↦ rw s refl
-    ]
+    by : (n : ℕ) (there : Bool) → x ∷ (if there then remove xs n else xs) ≡ (if there then remove (x ∷ xs) (suc n) else (x ∷ xs))
+    by n true = refl
+    by n false = refl
 
     step : (n : ℕ) → x ∷ cut r xs n ≡ cut r (x ∷ xs) (1 + n)
-    step n = by n (slice_get xs n) refl ∙ ap (cut r (x ∷ xs)) (one-more n)
+    step n = by n (stands r (slice_get xs n)) ∙ ap (cut r (x ∷ xs)) (one-more n)
 
 -- as the calls say it, over slices of the list
 pub held-at : (rank uid : ℕ) (xs ys zs : List OwnedRange) (place : ℕ) (o : Option OwnedRange) → rise xs ≡ true → ys ≡ xs → zs ≡ xs → place ≡ prefix_len (λ e. ends_before rank uid e.range) ys → o ≡ slice_get zs place
@@ -187,11 +184,12 @@ held-at rank uid xs ys zs place o rises first second is at =
     find-held rank uid xs rises
     ∙ ap (held rank uid) (ap (λ l. slice_get xs (prefix_len (λ e. ends_before rank uid e.range) l)) (sym first) ∙ ap (slice_get xs) (sym is) ∙ ap (λ l. slice_get l place) (sym second) ∙ sym at)
 
-pub cut-at : (r : Ranked) (xs ys zs : List OwnedRange) (place : ℕ) (o : Option OwnedRange) → rise xs ≡ true → ys ≡ xs → zs ≡ xs → place ≡ prefix_len (λ e. ends_before r.rank r.users.first.number e.range) ys → o ≡ slice_get zs place
-    → filter (λ e. not (same_ranked e.range r)) xs ≡ (elim o [ Some e ↦ if same_ranked e.range r then remove xs place else xs | None ↦ xs ])
-cut-at r xs ys zs place o rises first second is at =
-    filter-cut r xs rises ∙ ap (λ l. cut r xs (prefix_len (λ e. ends_before r.rank r.users.first.number e.range) l)) (sym first) ∙ ap (cut r xs) (sym is)
-    ∙ ap (λ o. elim o [ Some e ↦ if same_ranked e.range r then remove xs place else xs | None ↦ xs ]) (ap (λ l. slice_get l place) (sym second) ∙ sym at)
+pub cut-at : (r : Ranked) (xs ys zs : List OwnedRange) (first place : ℕ) (there : Bool) → rise xs ≡ true → ys ≡ xs → zs ≡ xs → first ≡ r.users.first.number → place ≡ prefix_len (λ e. ends_before r.rank first e.range) ys → there ≡ stands r (slice_get zs place)
+    → (if there then remove xs place else xs) ≡ filter (λ e. not (same_ranked e.range r)) xs
+cut-at r xs ys zs first place there rises one two begins is at =
+    ap (λ b. if b then remove xs place else xs) (at ∙ ap (λ l. stands r (slice_get l place)) two)
+    ∙ ap (cut r xs) (is ∙ ap (λ n. prefix_len (λ e. ends_before r.rank n e.range) ys) begins ∙ ap (prefix_len (λ e. ends_before r.rank r.users.first.number e.range)) one)
+    ∙ sym (filter-cut r xs rises)
 
 -- whether a range meets one of the list
 

@@ -1,5 +1,5 @@
 -- Ranges with the networks to which they belong, in rising order of rank and, of one rank, of UIDs.
-use Rattle.std.specs.Prelude.{◌≡◌, ℕ, ◌==◌, ◌&&◌, Bool, List, [], ◌∷◌, Option, Some, None, ◌<◌, nat_lt, nat_le, find, if◌then◌else◌}
+use Rattle.std.specs.Prelude.{◌≡◌, ℕ, ◌==◌, ◌&&◌, Bool, false, List, [], ◌∷◌, Option, Some, None, ◌<◌, nat_lt, nat_le, find, if◌then◌else◌}
 use Rattle.std.specs.List.{list_all, list_any}
 use Rattle.std.specs.Option.{option_map}
 use Rattle.list_lemmas.specs.Pairwise.{pairwise}
@@ -26,6 +26,11 @@ holds_at rank uid r = (r.rank == rank) && holds r.users uid
 -- the same range at the same rank
 abbrev pub same_ranked : Ranked → Ranked → Bool
 same_ranked a b = (a.rank == b.rank) && same_range a.users b.users
+
+-- it is the range that stands there
+abbrev pub stands : Ranked → Option OwnedRange → Bool
+stands range None = false
+stands range (Some e) = same_ranked e.range range
 
 -- of one rank, with a UID in both
 abbrev pub clash : Ranked → Ranked → Bool

@@ -9,6 +9,3 @@ mod store;
 pub use network::{MOST_INTERFACES, StoredKind, StoredNetwork};
 pub use ranges::StoredRanges;
 pub use store::StoredNetworks;
-
-#[cfg(test)]
-mod tests;

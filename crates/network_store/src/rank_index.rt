@@ -3,7 +3,7 @@ ghost use Rattle.std.specs.List.{list_any, prefix_len};
 ghost use Rattle.uid_ranges.specs.Ranges.{AreDisjoint};
 ghost use Rattle.uid_ranges.specs.Ranks.{last_rank, all_at};
 ghost use Rattle.uid_ranges.specs.declared.ranked.Ranked.{Ranked};
-ghost use Rattle.network_store.specs.RankIndex.{ends_before, holds_at, same_ranked, clash, rise, put, owner_of, owner_at, IsFirstOwner, are_low, any_meets, has_ranked, has_among};
+ghost use Rattle.network_store.specs.RankIndex.{ends_before, holds_at, same_ranked, clash, rise, put, owner_of, owner_at, IsFirstOwner, are_low, any_meets, has_ranked, has_among, stands};
 
 use crate::ranges::{is_among, ranked};
 use std::alloc::{AllocError, Global};
@@ -96,6 +96,16 @@ fn owner_in(ranges: &[OwnedRange], rank: u8, uid: Uid) -> Option<u16>
         return None;
     }
     Some(one.owner)
+}
+
+// Whether this very range of this rank stands at the place.
+fn stands_at(ranges: &[OwnedRange], range: &Ranked, place: usize) -> bool
+    ensures { result ≡ stands range.now (slice_get ranges.now place) }
+{
+    match range_at(ranges, place) {
+        Some(one) => is_same(&one.range, range),
+        None => false,
+    }
 }
 
 // Whether a range of the list meets this one at its rank.
@@ -193,10 +203,7 @@ impl RankIndex {
             cond (same_ranked range.now r) None (owner_of self.old.ranges r) }
     {
         let place = place_of(&self.ranges, range.rank, range.users.first());
-        let Some(one) = range_at(&self.ranges, place) else {
-            return;
-        };
-        if is_same(&one.range, range) {
+        if stands_at(&self.ranges, range, place) {
             self.ranges.remove(place);
         }
     }

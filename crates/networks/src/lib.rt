@@ -8,6 +8,3 @@ mod networks_by_id;
 pub use kind::Kind;
 pub use network::{LinkRoute, LinkRoutes, Links, Network};
 pub use networks_by_id::{LOCAL_ID, Networks};
-
-#[cfg(test)]
-mod tests;

@@ -10,6 +10,3 @@ pub use append::{append_byte, append_bytes};
 pub use laws::{one_number, one_text, what_is_written};
 pub use read::{read_decimal, read_digits, read_hexadecimal};
 pub use write::{write_decimal, write_hexadecimal};
-
-#[cfg(test)]
-mod tests;

@@ -24,7 +24,7 @@ use Rattle.policy_state.specs.declared.row.NetworkPart.TheVariants.{Whole, EachI
 use Rattle.policy_state.specs.declared.row.OnePer.TheVariants.{EachOf}
 use Rattle.networks.specs.Kinds.{is_virtual}
 use Rattle.policy_state.specs.Table.{stated, root_range, rule_of, rules_in, root_physical, root_local, virtual_to_local, secure_named, locked_down, explicit_physical, explicit_local, explicit_virtual, explicit_root, bound_physical, bound_local, bound_virtual, local_links, tethered, implicit, bypass_named, split, default_links, last}
-use Rattle.policy_state.proofs.RowTests.{is_own, is_fit}
+use Rattle.policy_state.proofs.RowTests.{is_own, is_fit, is_linked}
 use Rattle.policy_state.proofs.Owners.{Owners, IsOwned, AreOnce}
 use Rattle.policy_meaning.proofs.Answers.{Answers, asks_links, by_tables, rule_says, net_says, links_say, split_says, lead_says, suits, is_user}
 use Rattle.policy_meaning.specs.Policy.{only_if, Asks, first_given, may_use, may_reach, may_bind, may_choose, asks_named, asks_bound, asks_default, names_virtual, is_locked_down}
@@ -34,7 +34,7 @@ use Rattle.uid_ranges.specs.Ranks.{holds_user}
 use Rattle.policy_state.proofs.SharedPackets.{Fits}
 use Rattle.policy_meaning.proofs.Given.{given-map, given-same, given-one, or-none}
 use Rattle.policy_meaning.proofs.RowAnswers.{item-says, each-says, given-any, only-both, links-given}
-use Rattle.policy_meaning.proofs.RowAnswers.{anywhere, plain-links, named-says, bound-says, unbound-says, default-says}
+use Rattle.policy_meaning.proofs.RowAnswers.{anywhere, plain-links, named-says, admits, bound-says, unbound-says, default-says}
 use Rattle.rule_match.specs.declared.verdict.Verdict.TheVariants as verdict
 
 -- looked up, and tested
@@ -224,29 +224,20 @@ module _ (answers : Answers) (s : StateView) (p : Packet) (o : Owners) (good : I
   by_bound row admits pick link n = only_if (only_if (only_if (lead_says answers row.target link) (1 == p.incoming)) (admits n)) (picks pick s.default n)
 
   -- a row whose rules are bound
-  links-bound : (row : Row) → row.bound ≡ true → is_own row.incoming ≡ false → ((link : ℕ) → only_if (lead_says answers row.target link) (selects_link (stated row.incoming 0) (Some p.incoming)) ≡ only_if (lead_says answers row.target link) (1 == p.incoming))
-      → is_fit row ≡ true → (pick : NetworkSet) → row.per ≡ EachOf pick EachInterface → says row ≡ of_bound (by_bound row (by_links row) pick)
-  links-bound row bound not_own incoming fit pick per = by p.outgoing refl
+  row-bound : (row : Row) (bound : row.bound ≡ true) (not_own : is_own row.incoming ≡ false) → ((link : ℕ) → only_if (lead_says answers row.target link) (selects_link (stated row.incoming 0) (Some p.incoming)) ≡ only_if (lead_says answers row.target link) (1 == p.incoming))
+      → is_fit row ≡ true → (pick : NetworkSet) (spread : NetworkPart) → is_linked spread ≡ true → row.per ≡ EachOf pick spread → says row ≡ of_bound (by_bound row (admits answers p row bound not_own spread) pick)
+  row-bound row bound not_own incoming fit pick spread linked per = by p.outgoing refl
     where
-      by : (out : Option ℕ) → p.outgoing ≡ out → says row ≡ of_bound (by_bound row (by_links row) pick)
-      by None is = unbound-says answers p row bound is o s good.owns fit pick EachInterface refl per ∙ sym (ap (option_and_then (λ link. option_and_then (by_bound row (by_links row) pick link) (find_link link s.networks))) is)
-      by (Some link) is =
-          bound-says answers p row bound not_own o s good once fit pick EachInterface refl per link is
-          ∙ (and-same (λ n. only_if (only_if (only_if (lead_says answers row.target link) (selects_link (stated row.incoming 0) (Some p.incoming))) (by_links row n)) (picks pick s.default n)) (by_bound row (by_links row) pick link) (find_link link s.networks)
-          (λ n at. ap (λ v. only_if (only_if v (by_links row n)) (picks pick s.default n)) (incoming link))
-          ∙ sym (ap (option_and_then (λ link. option_and_then (by_bound row (by_links row) pick link) (find_link link s.networks))) is))
+      test : Network → Bool
+      test = admits answers p row bound not_own spread
 
-  users-bound : (row : Row) → row.bound ≡ true → is_own row.incoming ≡ false → ((link : ℕ) → only_if (lead_says answers row.target link) (selects_link (stated row.incoming 0) (Some p.incoming)) ≡ only_if (lead_says answers row.target link) (1 == p.incoming))
-      → is_fit row ≡ true → (pick : NetworkSet) → row.per ≡ EachOf pick EachRange → says row ≡ of_bound (by_bound row (by_users row) pick)
-  users-bound row bound not_own incoming fit pick per = by p.outgoing refl
-    where
-      by : (out : Option ℕ) → p.outgoing ≡ out → says row ≡ of_bound (by_bound row (by_users row) pick)
-      by None is = unbound-says answers p row bound is o s good.owns fit pick EachRange refl per ∙ sym (ap (option_and_then (λ link. option_and_then (by_bound row (by_users row) pick link) (find_link link s.networks))) is)
+      by : (out : Option ℕ) → p.outgoing ≡ out → says row ≡ of_bound (by_bound row test pick)
+      by None is = unbound-says answers p row bound is o s good.owns fit pick spread linked per ∙ sym (ap (option_and_then (λ link. option_and_then (by_bound row test pick link) (find_link link s.networks))) is)
       by (Some link) is =
-          bound-says answers p row bound not_own o s good once fit pick EachRange refl per link is
-          ∙ (and-same (λ n. only_if (only_if (only_if (lead_says answers row.target link) (selects_link (stated row.incoming 0) (Some p.incoming))) (by_users row n)) (picks pick s.default n)) (by_bound row (by_users row) pick link) (find_link link s.networks)
-          (λ n at. ap (λ v. only_if (only_if v (by_users row n)) (picks pick s.default n)) (incoming link))
-          ∙ sym (ap (option_and_then (λ link. option_and_then (by_bound row (by_users row) pick link) (find_link link s.networks))) is))
+          bound-says answers p row bound not_own o s good once fit pick spread linked per link is
+          ∙ (and-same (λ n. only_if (only_if (only_if (lead_says answers row.target link) (selects_link (stated row.incoming 0) (Some p.incoming))) (test n)) (picks pick s.default n)) (by_bound row test pick link) (find_link link s.networks)
+          (λ n at. ap (λ v. only_if (only_if v (test n)) (picks pick s.default n)) (incoming link))
+          ∙ sym (ap (option_and_then (λ link. option_and_then (by_bound row test pick link) (find_link link s.networks))) is))
 
   bound-net : (link : ℕ) (n : Network) → option_or (by_bound bound_physical (by_links bound_physical) OfPhysical link n)
       (option_or (by_bound bound_local (by_links bound_local) OfLocal link n) (by_bound bound_virtual (by_users bound_virtual) OfVirtual link n))
@@ -265,8 +256,8 @@ module _ (answers : Answers) (s : StateView) (p : Packet) (o : Owners) (good : I
 
   pub bound-level : option_or (says bound_physical) (option_or (says bound_local) (says bound_virtual)) ≡ only_if (asks_bound a s p (may_bind p)) (is_made p)
   bound-level =
-      ap₂ option_or (links-bound bound_physical refl refl (λ link. refl) refl OfPhysical refl)
-      (ap₂ option_or (links-bound bound_local refl refl (λ link. refl) refl OfLocal refl) (users-bound bound_virtual refl refl (λ link. refl) refl OfVirtual refl)
+      ap₂ option_or (row-bound bound_physical refl refl (λ link. refl) refl OfPhysical EachInterface refl refl)
+      (ap₂ option_or (row-bound bound_local refl refl (λ link. refl) refl OfLocal EachInterface refl refl) (row-bound bound_virtual refl refl (λ link. refl) refl OfVirtual EachRange refl refl)
       ∙ of_bound-both (by_bound bound_local (by_links bound_local) OfLocal) (by_bound bound_virtual (by_users bound_virtual) OfVirtual))
       ∙ (of_bound-both (by_bound bound_physical (by_links bound_physical) OfPhysical) (λ link n. option_or (by_bound bound_local (by_links bound_local) OfLocal link n) (by_bound bound_virtual (by_users bound_virtual) OfVirtual link n))
       ∙ (of_bound-same _ (λ link (n : Network). only_if (only_if (a.link n link) (may_bind p n)) (is_made p)) bound-net
@@ -292,7 +283,7 @@ module _ (answers : Answers) (s : StateView) (p : Packet) (o : Owners) (good : I
 
   pub root-level : option_or (says root_physical) (says root_local) ≡ only_if (only_if (asks_bound a s p (may_reach p)) (p.uid.number == 0)) (is_made p)
   root-level =
-      ap₂ option_or (links-bound root_physical refl refl (λ link. refl) refl OfPhysical refl) (links-bound root_local refl refl (λ link. refl) refl OfLocal refl)
+      ap₂ option_or (row-bound root_physical refl refl (λ link. refl) refl OfPhysical EachInterface refl refl) (row-bound root_local refl refl (λ link. refl) refl OfLocal EachInterface refl refl)
       ∙ (of_bound-both (by_bound root_physical (by_links root_physical) OfPhysical) (by_bound root_local (by_links root_local) OfLocal)
       ∙ (of_bound-same _ (λ link (n : Network). only_if (only_if (only_if (a.link n link) (may_reach p n)) (p.uid.number == 0)) (is_made p)) root-net
       ∙ (of_bound-test (λ link (n : Network). only_if (only_if (a.link n link) (may_reach p n)) (p.uid.number == 0)) (is_made p)

@@ -14,6 +14,3 @@ pub use route::{Answer, Out, Route};
 pub use same::{
     same_addr, same_family, same_gateway, same_key, same_link, same_out, same_prefix, same_route,
 };
-
-#[cfg(test)]
-mod tests;

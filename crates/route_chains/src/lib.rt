@@ -9,6 +9,3 @@ mod test;
 
 pub use chains::RouteChains;
 pub use places::{held, push_held, put};
-
-#[cfg(test)]
-mod tests;

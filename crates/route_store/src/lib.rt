@@ -8,6 +8,3 @@ mod store;
 pub use key::RouteKey;
 pub use slots::Iter;
 pub use store::RouteStore;
-
-#[cfg(test)]
-mod tests;

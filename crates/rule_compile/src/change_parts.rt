@@ -42,6 +42,18 @@ fn is_home(state: &State, network: &StoredNetwork) -> bool
     picks(NetworkSet::OfDefault, state.default_net(), network)
 }
 
+/// The network in this shape, where it is the default one.
+fn home_as<'a>(state: &State, network: &StoredNetwork, shape: Shape<'a>) -> Option<Shape<'a>>
+    ensures { option_map shape_net result ≡
+        (if parts.is_home state.now (net_of network.now) then Some (shape_net shape.entry) else None) }
+{
+    if is_home(state, network) {
+        Some(shape)
+    } else {
+        None
+    }
+}
+
 /// A network that comes.
 pub(crate) fn new_part<'a>(state: &'a State, network: Shape<'a>) -> Touched<'a>
     ensures { (n : Network) → shape_net network.entry ≡ unrouted n
@@ -103,11 +115,7 @@ pub(crate) fn link_part<'a>(
         extent: Extent::Links,
         network: Some(shape),
         default: state.default_net(),
-        home: if is_home(state, network) {
-            Some(shape)
-        } else {
-            None
-        },
+        home: home_as(state, network, shape),
         others: Some(state.networks()),
         pairs,
         ..untouched()
@@ -152,11 +160,7 @@ pub(crate) fn asking_part<'a>(
     Touched {
         network: Some(shape),
         default: state.default_net(),
-        home: if is_home(state, network) {
-            Some(shape)
-        } else {
-            None
-        },
+        home: home_as(state, network, shape),
         others: Some(state.networks()),
         ..untouched()
     }

@@ -10,6 +10,3 @@ pub use packet::{LOOPBACK, Packet};
 pub use rule::{Action, Rule};
 pub use same::{same_action, same_rule, same_selectors, same_verdict};
 pub use verdict::Verdict;
-
-#[cfg(test)]
-mod tests;

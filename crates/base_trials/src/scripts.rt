@@ -1,4 +1,4 @@
-use super::make_script;
+use script_gen::make_script;
 use std::test::Fail;
 
 // The lines were drawn by hand from the definition of the generator; the first number is 1059165278, whose last digit is the
