@@ -5,6 +5,8 @@
 #[cfg(test)]
 mod codes;
 #[cfg(test)]
+mod drawn;
+#[cfg(test)]
 mod lists;
 #[cfg(test)]
 mod ranges;

@@ -1,8 +1,6 @@
-//! Tests of a kernel by lists with a plan carried out on it, a trail and a watch.
+//! Tests of a plan and a watch over a kernel by lists, and of what a search in a trie reads.
 #![tactic(auto)]
 
-#[cfg(test)]
-mod alike;
 #[cfg(test)]
 mod tests;
 #[cfg(test)]

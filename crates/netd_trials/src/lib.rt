@@ -9,5 +9,3 @@ mod over_memory;
 mod quota;
 #[cfg(test)]
 mod streams;
-#[cfg(test)]
-mod tests;

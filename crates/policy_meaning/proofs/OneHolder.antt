@@ -1,6 +1,6 @@
 -- The network that holds a user at a rank: no second one of its kind does, so it is the only one that says something.
-use Rattle.std.proofs.Common.{◌≡◌, ◌∙◌, ◌==◌, ℕ, Bool, true, false, Option, None, List, refl, sym, ap}
-use Rattle.std.specs.Prelude.{◌&&◌, find}
+use Rattle.std.proofs.Common.{◌≡◌, ◌∙◌, ◌==◌, ℕ, Bool, true, false, Option, refl, sym, ap}
+use Rattle.std.specs.Prelude.{◌&&◌}
 use Rattle.std.specs.Option.{option_and_then}
 use Rattle.std.proofs.lemmas.Bool.{and_parts, eqb-true}
 use Rattle.networks.specs.Kinds.{class_of, ranges_of}
@@ -11,7 +11,7 @@ use Rattle.policy_state.specs.View.{Local, Physical, Virtual, Ranked, StateView}
 use Rattle.policy_state.proofs.GoodStates.{are-once, is-good}
 use Rattle.policy_state.proofs.Owners.{Has, IsOwned, Passing, of_any, owners_of}
 use Rattle.policy_meaning.specs.Asking.{holder_at, is_holder, is_meant}
-use Rattle.policy_meaning.specs.Policy.{only_if, asks, first_given, holds_at}
+use Rattle.policy_meaning.specs.Policy.{only_if, asks, holds_at}
 use Rattle.policy_meaning.specs.declared.holders.Holder.{Holder}
 use Rattle.policy_meaning.specs.declared.holders.Holder.TheVariants as holder
 use Rattle.policy_meaning.proofs.AnswersInTurn.{net_says, rank_says}

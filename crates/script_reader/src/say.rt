@@ -1,4 +1,5 @@
-ghost use Rattle.std.specs.Prelude.{◌≡◌, Some};
+ghost use Rattle.std.specs.Prelude.{◌≡◌, Some, if◌then◌else◌};
+ghost use Rattle.script_reader.specs.declared.form.Form.TheVariants as form;
 ghost use Rattle.commands.specs.declared.command.Command.TheVariants as command;
 ghost use Rattle.script_reader.specs.declared.line.Line.TheVariants as line;
 ghost use Rattle.script_reader.specs.Parts.{IsPartsOf};
@@ -7,7 +8,8 @@ ghost use Rattle.script_reader.specs.Rows.{says};
 use crate::form::Form;
 use crate::line::{Line, ShowLine, SocketLine, TraceLine};
 use commands::{Command, Ranges, Way};
-use prefixes::Family;
+use net_names::Name;
+use prefixes::{Family, Prefix};
 use uid_ranges::UidRange;
 use word_text::Values;
 
@@ -84,63 +86,136 @@ fn users_parts(net: u16, rank: u8, ranges: &[UidRange]) -> (Form, Values, &[UidR
     }
 }
 
-/// The form of a line, its values and its ranges. A blank line has none.
+// The form and the values of a line that traces packets.
 #[rattlefmt::skip]
+fn trace_parts(traced: &TraceLine) -> (Form, Values, &[UidRange])
+    ensures { IsPartsOf (line.Trace traced.now) (Some result) }
+{
+    let none = Values::nothing();
+    match traced {
+        TraceLine::Made { uid, mark, dest, link: None } => (Form::Packet, Values { uid: *uid, mark: *mark, addr: *dest, ..none }, &[]),
+        TraceLine::Made { uid, mark, dest, link: Some(link) } => (Form::PacketOn, Values { uid: *uid, mark: *mark, addr: *dest, name: *link, ..none }, &[]),
+        TraceLine::Trace { name, dest } => (Form::Trace, Values { name: *name, addr: *dest, ..none }, &[]),
+        TraceLine::Passed { link, dest } => (Form::Passed, Values { name: *link, addr: *dest, ..none }, &[]),
+        TraceLine::WatchOff => (Form::WatchOff, none, &[]),
+        TraceLine::Watch { name, dest } => (Form::Watch, Values { name: *name, addr: *dest, ..none }, &[]),
+    }
+}
+
+// The form and the values of a route that comes.
+#[rattlefmt::skip]
+fn route_parts(net: u16, name: Name, prefix: Prefix, way: Way) -> (Form, Values, &'static [UidRange])
+    ensures { IsPartsOf (line.Control (command.RouteAdd net name prefix way)) (Some result) }
+{
+    let direct = Values { net, name, prefix, ..Values::nothing() };
+    match way {
+        Way::Direct => (Form::RouteAdd, direct, &[]),
+        Way::Via(addr) => (Form::RouteAddVia, Values { addr, ..direct }, &[]),
+        Way::Unreachable => (Form::RouteAddUnreachable, direct, &[]),
+        Way::Throw => (Form::RouteAddThrow, direct, &[]),
+    }
+}
+
+// The form of a route that goes.
+fn route_removal(special: bool) -> Form
+    ensures { result ≡ (if special then form.RouteRemoveSpecial else form.RouteRemove) }
+{
+    if special {
+        Form::RouteRemoveSpecial
+    } else {
+        Form::RouteRemove
+    }
+}
+
+// The form of a VPN that comes.
+fn vpn_creation(secure: bool) -> Form
+    ensures { result ≡ (if secure then form.CreateSecure else form.CreateBypassable) }
+{
+    if secure {
+        Form::CreateSecure
+    } else {
+        Form::CreateBypassable
+    }
+}
+
+// The form and the values of a command.
+#[rattlefmt::skip]
+fn command_parts(asked: &Command) -> (Form, Values, &[UidRange])
+    ensures { IsPartsOf (line.Control asked.now) (Some result) }
+{
+    let none = Values::nothing();
+    match asked {
+        Command::RouteAdd { net, name, prefix, way } => route_parts(*net, *name, *prefix, *way),
+        Command::RouteRemove { net, name, prefix, special } => (route_removal(*special), Values { net: *net, name: *name, prefix: *prefix, ..none }, &[]),
+        Command::CreateVirtual { net, secure } => (vpn_creation(*secure), Values { net: *net, ..none }, &[]),
+        Command::LockdownAdd { range } => (Form::LockdownAdd, Values { range: *range, ..none }, &[]),
+        Command::LockdownRemove { range } => (Form::LockdownRemove, Values { range: *range, ..none }, &[]),
+        Command::UsersAdd { net, rank, ranges } => users_parts(*net, *rank, ranges.as_slice()),
+        Command::UsersRemove { net, ranges } => (Form::UsersRemove, Values { net: *net, ..none }, ranges.as_slice()),
+        Command::AppAdd { net, rank, ranges } => (Form::AppAdd, Values { net: *net, rank: *rank, ..none }, ranges.as_slice()),
+        Command::AppRemove { net, ranges } => (Form::AppRemove, Values { net: *net, ..none }, ranges.as_slice()),
+        Command::InterfaceAdd { net, name } => (Form::InterfaceAdd, Values { net: *net, name: *name, ..none }, &[]),
+        Command::InterfaceRemove { net, name } => (Form::InterfaceRemove, Values { net: *net, name: *name, ..none }, &[]),
+        Command::DefaultSet { net } => (Form::DefaultSet, Values { net: *net, ..none }, &[]),
+        Command::DefaultClear => (Form::DefaultClear, none, &[]),
+        Command::PermissionNetwork { net, permission } => (Form::PermissionNetwork, Values { net: *net, permission: *permission, ..none }, &[]),
+        Command::PermissionUser { uid, permission } => (Form::PermissionUser, Values { uid: *uid, permission: *permission, ..none }, &[]),
+        Command::PermissionClear { uid } => (Form::PermissionClear, Values { uid: *uid, ..none }, &[]),
+        Command::LinkAdd { name, index } => (Form::LinkAdd, Values { name: *name, index: *index, ..none }, &[]),
+        Command::LinkRemove { name } => (Form::LinkRemove, Values { name: *name, ..none }, &[]),
+        Command::CreatePhysical { net, permission } => (Form::CreatePhysical, Values { net: *net, permission: *permission, ..none }, &[]),
+        Command::Destroy { net } => (Form::Destroy, Values { net: *net, ..none }, &[]),
+        Command::ProtectAllow { uid } => (Form::ProtectAllow, Values { uid: *uid, ..none }, &[]),
+        Command::ProtectDeny { uid } => (Form::ProtectDeny, Values { uid: *uid, ..none }, &[]),
+        Command::TetherAdd { input, out } => (Form::TetherAdd, Values { name: *input, other: *out, ..none }, &[]),
+        Command::TetherRemove { input, out } => (Form::TetherRemove, Values { name: *input, other: *out, ..none }, &[]),
+    }
+}
+
+// The form and the values of a line about a socket.
+#[rattlefmt::skip]
+fn socket_parts(call: &SocketLine) -> (Form, Values, &[UidRange])
+    ensures { IsPartsOf (line.Socket call.now) (Some result) }
+{
+    let none = Values::nothing();
+    match call {
+        SocketLine::Open { name, uid } => (Form::SocketOpen, Values { name: *name, uid: *uid, ..none }, &[]),
+        SocketLine::Close { name } => (Form::SocketClose, Values { name: *name, ..none }, &[]),
+        SocketLine::Bind { name, link } => (Form::SocketBind, Values { name: *name, other: *link, ..none }, &[]),
+        SocketLine::Unbind { name } => (Form::SocketUnbind, Values { name: *name, ..none }, &[]),
+        SocketLine::Connect { name } => (Form::SocketConnect, Values { name: *name, ..none }, &[]),
+        SocketLine::Accept { name, uid, link } => (Form::SocketAccept, Values { name: *name, uid: *uid, other: *link, ..none }, &[]),
+        SocketLine::Select { name, net } => (Form::SocketSelect, Values { name: *name, net: *net, ..none }, &[]),
+        SocketLine::Protect { name } => (Form::SocketProtect, Values { name: *name, ..none }, &[]),
+        SocketLine::SelectFor { name, user } => (Form::SocketSelectFor, Values { name: *name, uid: *user, ..none }, &[]),
+        SocketLine::Access { uid, net } => (Form::Access, Values { uid: *uid, net: *net, ..none }, &[]),
+    }
+}
+
+// The form and the values of a line that shows something.
+#[rattlefmt::skip]
+fn show_parts(shown: &ShowLine) -> (Form, Values, &[UidRange])
+    ensures { IsPartsOf (line.Show shown.now) (Some result) }
+{
+    let none = Values::nothing();
+    match shown {
+        ShowLine::Rules { family: Family::V4 } => (Form::ShowRules4, none, &[]),
+        ShowLine::Rules { family: Family::V6 } => (Form::ShowRules6, none, &[]),
+        ShowLine::Table { number } => (Form::ShowTable, Values { table: *number, ..none }, &[]),
+        ShowLine::Networks => (Form::ShowNetworks, none, &[]),
+        ShowLine::Sockets => (Form::ShowSockets, none, &[]),
+    }
+}
+
+/// The form of a line, its values and its ranges. A blank line has none.
 pub fn parts(line: &Line) -> Option<(Form, Values, &[UidRange])>
     ensures { IsPartsOf line.now result }
 {
-    let none = Values::nothing();
     match line {
         Line::Blank => None,
-        Line::Trace(TraceLine::Made { uid, mark, dest, link: None }) => Some((Form::Packet, Values { uid: *uid, mark: *mark, addr: *dest, ..none }, &[])),
-        Line::Trace(TraceLine::Made { uid, mark, dest, link: Some(link) }) => Some((Form::PacketOn, Values { uid: *uid, mark: *mark, addr: *dest, name: *link, ..none }, &[])),
-        Line::Trace(TraceLine::Trace { name, dest }) => Some((Form::Trace, Values { name: *name, addr: *dest, ..none }, &[])),
-        Line::Trace(TraceLine::Passed { link, dest }) => Some((Form::Passed, Values { name: *link, addr: *dest, ..none }, &[])),
-        Line::Control(Command::RouteAdd { net, name, prefix, way: Way::Direct }) => Some((Form::RouteAdd, Values { net: *net, name: *name, prefix: *prefix, ..none }, &[])),
-        Line::Control(Command::RouteAdd { net, name, prefix, way: Way::Via(gateway) }) => Some((Form::RouteAddVia, Values { net: *net, name: *name, prefix: *prefix, addr: *gateway, ..none }, &[])),
-        Line::Control(Command::RouteAdd { net, name, prefix, way: Way::Unreachable }) => Some((Form::RouteAddUnreachable, Values { net: *net, name: *name, prefix: *prefix, ..none }, &[])),
-        Line::Control(Command::RouteAdd { net, name, prefix, way: Way::Throw }) => Some((Form::RouteAddThrow, Values { net: *net, name: *name, prefix: *prefix, ..none }, &[])),
-        Line::Control(Command::RouteRemove { net, name, prefix, special: false }) => Some((Form::RouteRemove, Values { net: *net, name: *name, prefix: *prefix, ..none }, &[])),
-        Line::Control(Command::RouteRemove { net, name, prefix, special: true }) => Some((Form::RouteRemoveSpecial, Values { net: *net, name: *name, prefix: *prefix, ..none }, &[])),
-        Line::Control(Command::LockdownAdd { range }) => Some((Form::LockdownAdd, Values { range: *range, ..none }, &[])),
-        Line::Control(Command::LockdownRemove { range }) => Some((Form::LockdownRemove, Values { range: *range, ..none }, &[])),
-        Line::Control(Command::UsersAdd { net, rank, ranges }) => Some(users_parts(*net, *rank, ranges.as_slice())),
-        Line::Control(Command::UsersRemove { net, ranges }) => Some((Form::UsersRemove, Values { net: *net, ..none }, ranges.as_slice())),
-        Line::Control(Command::AppAdd { net, rank, ranges }) => Some((Form::AppAdd, Values { net: *net, rank: *rank, ..none }, ranges.as_slice())),
-        Line::Control(Command::AppRemove { net, ranges }) => Some((Form::AppRemove, Values { net: *net, ..none }, ranges.as_slice())),
-        Line::Control(Command::InterfaceAdd { net, name }) => Some((Form::InterfaceAdd, Values { net: *net, name: *name, ..none }, &[])),
-        Line::Control(Command::InterfaceRemove { net, name }) => Some((Form::InterfaceRemove, Values { net: *net, name: *name, ..none }, &[])),
-        Line::Control(Command::DefaultSet { net }) => Some((Form::DefaultSet, Values { net: *net, ..none }, &[])),
-        Line::Control(Command::DefaultClear) => Some((Form::DefaultClear, none, &[])),
-        Line::Control(Command::PermissionNetwork { net, permission }) => Some((Form::PermissionNetwork, Values { net: *net, permission: *permission, ..none }, &[])),
-        Line::Control(Command::PermissionUser { uid, permission }) => Some((Form::PermissionUser, Values { uid: *uid, permission: *permission, ..none }, &[])),
-        Line::Control(Command::PermissionClear { uid }) => Some((Form::PermissionClear, Values { uid: *uid, ..none }, &[])),
-        Line::Socket(SocketLine::Open { name, uid }) => Some((Form::SocketOpen, Values { name: *name, uid: *uid, ..none }, &[])),
-        Line::Socket(SocketLine::Close { name }) => Some((Form::SocketClose, Values { name: *name, ..none }, &[])),
-        Line::Socket(SocketLine::Bind { name, link }) => Some((Form::SocketBind, Values { name: *name, other: *link, ..none }, &[])),
-        Line::Socket(SocketLine::Unbind { name }) => Some((Form::SocketUnbind, Values { name: *name, ..none }, &[])),
-        Line::Socket(SocketLine::Connect { name }) => Some((Form::SocketConnect, Values { name: *name, ..none }, &[])),
-        Line::Socket(SocketLine::Accept { name, uid, link }) => Some((Form::SocketAccept, Values { name: *name, uid: *uid, other: *link, ..none }, &[])),
-        Line::Socket(SocketLine::Select { name, net }) => Some((Form::SocketSelect, Values { name: *name, net: *net, ..none }, &[])),
-        Line::Socket(SocketLine::Protect { name }) => Some((Form::SocketProtect, Values { name: *name, ..none }, &[])),
-        Line::Socket(SocketLine::SelectFor { name, user }) => Some((Form::SocketSelectFor, Values { name: *name, uid: *user, ..none }, &[])),
-        Line::Socket(SocketLine::Access { uid, net }) => Some((Form::Access, Values { uid: *uid, net: *net, ..none }, &[])),
-        Line::Control(Command::LinkAdd { name, index }) => Some((Form::LinkAdd, Values { name: *name, index: *index, ..none }, &[])),
-        Line::Control(Command::LinkRemove { name }) => Some((Form::LinkRemove, Values { name: *name, ..none }, &[])),
-        Line::Control(Command::CreatePhysical { net, permission }) => Some((Form::CreatePhysical, Values { net: *net, permission: *permission, ..none }, &[])),
-        Line::Control(Command::CreateVirtual { net, secure: true }) => Some((Form::CreateSecure, Values { net: *net, ..none }, &[])),
-        Line::Control(Command::CreateVirtual { net, secure: false }) => Some((Form::CreateBypassable, Values { net: *net, ..none }, &[])),
-        Line::Control(Command::Destroy { net }) => Some((Form::Destroy, Values { net: *net, ..none }, &[])),
-        Line::Control(Command::ProtectAllow { uid }) => Some((Form::ProtectAllow, Values { uid: *uid, ..none }, &[])),
-        Line::Control(Command::ProtectDeny { uid }) => Some((Form::ProtectDeny, Values { uid: *uid, ..none }, &[])),
-        Line::Control(Command::TetherAdd { input, out }) => Some((Form::TetherAdd, Values { name: *input, other: *out, ..none }, &[])),
-        Line::Control(Command::TetherRemove { input, out }) => Some((Form::TetherRemove, Values { name: *input, other: *out, ..none }, &[])),
-        Line::Trace(TraceLine::WatchOff) => Some((Form::WatchOff, none, &[])),
-        Line::Trace(TraceLine::Watch { name, dest }) => Some((Form::Watch, Values { name: *name, addr: *dest, ..none }, &[])),
-        Line::Show(ShowLine::Rules { family: Family::V4 }) => Some((Form::ShowRules4, none, &[])),
-        Line::Show(ShowLine::Rules { family: Family::V6 }) => Some((Form::ShowRules6, none, &[])),
-        Line::Show(ShowLine::Table { number }) => Some((Form::ShowTable, Values { table: *number, ..none }, &[])),
-        Line::Show(ShowLine::Networks) => Some((Form::ShowNetworks, none, &[])),
-        Line::Show(ShowLine::Sockets) => Some((Form::ShowSockets, none, &[])),
+        Line::Trace(traced) => Some(trace_parts(traced)),
+        Line::Control(asked) => Some(command_parts(asked)),
+        Line::Socket(call) => Some(socket_parts(call)),
+        Line::Show(shown) => Some(show_parts(shown)),
     }
 }

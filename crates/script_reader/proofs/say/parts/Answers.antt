@@ -1,18 +1,16 @@
-use Rattle.std.proofs.Common.{◌≡◌, ◌∙◌, Some, List, ap, subst, sym}
-use Rattle.commands.specs.declared.command.Command.TheVariants as command
+use Rattle.std.proofs.Common.{Some, subst, sym}
 use Rattle.script_reader.specs.Parts.{IsPartsOf}
 use Rattle.script_reader.specs.declared.line.Line.{Line}
-use Rattle.script_reader.specs.declared.line.Line.TheVariants as line
-use Rattle.uid_ranges.specs.declared.range.UidRange.{UidRange}
 use Rattle.script_reader.proofs.say.parts.Goals as goal
 
-pub returns-in-Control-UsersAdd : goal.returns-in-Control-UsersAdd
-returns-in-Control-UsersAdd c =
-    let x = c.in-Control-UsersAdd in
-    let variant : x.field-0 ≡ command.UsersAdd x.net x.rank x.ranges = rw x.is at x.field-0-is in
-    let is : c.args.line.now ≡ line.Control (command.UsersAdd x.net x.rank x.ranges) = x.is ∙ ap line.Control variant in
-    let ranges : x.ranges ≡ c.as_slice.result.now = sym c.as_slice.ensures in
-    let same : c.args.line.now ≡ line.Control (command.UsersAdd x.net x.rank c.as_slice.result.now) =
-    is ∙ ap (λ (list : List UidRange). line.Control (command.UsersAdd x.net x.rank list)) ranges
-    in
-    subst (λ (l : Line). IsPartsOf l (Some c.users_parts.result)) (sym same) c.users_parts.ensures
+pub returns-in-Control : goal.returns-in-Control
+returns-in-Control c = subst (λ (l : Line). IsPartsOf l (Some c.command_parts.result)) (sym c.in-Control.is) c.command_parts.ensures
+
+pub returns-in-Socket : goal.returns-in-Socket
+returns-in-Socket c = subst (λ (l : Line). IsPartsOf l (Some c.socket_parts.result)) (sym c.in-Socket.is) c.socket_parts.ensures
+
+pub returns-in-Trace : goal.returns-in-Trace
+returns-in-Trace c = subst (λ (l : Line). IsPartsOf l (Some c.trace_parts.result)) (sym c.in-Trace.is) c.trace_parts.ensures
+
+pub returns-in-Show : goal.returns-in-Show
+returns-in-Show c = subst (λ (l : Line). IsPartsOf l (Some c.show_parts.result)) (sym c.in-Show.is) c.show_parts.ensures

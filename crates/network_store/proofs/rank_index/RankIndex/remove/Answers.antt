@@ -1,4 +1,4 @@
-use Rattle.std.proofs.Common.{◌≡◌, ◌∙◌, sym, ap, not, filter, true, if◌then◌else◌}
+use Rattle.std.proofs.Common.{◌≡◌, ◌∙◌, sym, ap, not, filter, if◌then◌else◌}
 use Rattle.std.specs.List.{remove}
 use Rattle.std.specs.Prelude.{nat_le}
 use Rattle.list_lemmas.proofs.Pairs.{pairwise-filter, list_all-filter}

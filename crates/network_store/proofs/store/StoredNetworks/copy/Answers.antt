@@ -1,6 +1,6 @@
 use Rattle.std.proofs.Common.{◌≡◌, ◌∙◌, ap}
 use Rattle.std.proofs.lemmas.Map.Entries.{entries_from_clone}
-use Rattle.network_store.specs.Store.{StoreView, nets_of}
+use Rattle.network_store.specs.Store.{nets_of}
 use Rattle.network_store.proofs.Entries.{copied-nets, indexed-copied}
 use Rattle.network_store.proofs.store.StoredNetworks.copy.Goals as goal
 
