@@ -1,11 +1,9 @@
 -- A line is a command, or it asks the kernel nothing and leaves the controller as it is.
-use Rattle.std.proofs.Common.{◌≡◌, ◌≢◌, ◌⊎◌, ℕ, List, Option, None, Some, Result, Ok, Err, inl, inr, refl, ap}
+use Rattle.std.proofs.Common.{◌≡◌, ◌≢◌, ℕ, List, Option, None, Some, Result, Ok, Err, inl, inr, refl}
 use Rattle.commands.specs.declared.command.Command.{Command}
-use Rattle.kernel_model.specs.View.{KernelView}
 use Rattle.mark_server.specs.Access.{access}
 use Rattle.mark_server.specs.Sockets.{closing, socket_of}
 use Rattle.mark_server.specs.declared.socket.Socket.{Socket}
-use Rattle.net_control.specs.View.{ControllerView}
 use Rattle.net_names.specs.declared.code.Code.{Code}
 use Rattle.policy_state.specs.View.{link_named}
 use Rattle.prefixes.specs.declared.addr.Addr.{Addr}

@@ -43,7 +43,7 @@ use Rattle.turn_text.specs.declared.answer.Answer.TheVariants as answer
 use Rattle.netd_session.proofs.Asking.{IsKind, Keeps, is_command, is_other, kind_of_line}
 use Rattle.netd_session.proofs.SessionPass.{said_ends}
 use Rattle.netd_session.proofs.Tellings.{not_with_input}
-use Rattle.netd_session.specs.Answers.{IsAnsweredLine, IsCommanded}
+use Rattle.netd_session.specs.Answers.{IsCommanded}
 use Rattle.netd_session.specs.EndedView.{EndedView}
 use Rattle.netd_session.specs.Ends.{FailsToStart, HasBegun, HasEnded, HasRun, at_input, at_line, at_start, before_line, not_begun, start_halted, start_refused}
 use Rattle.netd_session.specs.History.{Part, asked_of, behind, left_by, Runs, Follow, AllRunButLast, AreSaid, the_start, a_command, another, Holds, LiesIn, asked, turn_of_part, History, HasHistory}

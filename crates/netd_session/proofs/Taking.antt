@@ -9,7 +9,6 @@ use Rattle.rule_match.specs.declared.packet.Packet.{Packet}
 use Rattle.script_reader.specs.BadLines.{IsBadAt}
 use Rattle.script_reader.specs.Lines.{Spells}
 use Rattle.script_reader.specs.declared.line.Line.{Line}
-use Rattle.script_reader.specs.declared.line.Line.TheVariants as line
 use Rattle.net_control.specs.Moments.{SendsByPolicy}
 use Rattle.net_control.specs.View.{IsKept}
 use Rattle.net_io.specs.Streams.{SinkView}

@@ -1,5 +1,5 @@
 -- What is said of a packet is what its line says, by the link and the socket of the line.
-use Rattle.std.proofs.Common.{◌≡◌, ℕ, ◌∷◌, List, Option, None, Some, inl, inr, refl, sym, subst}
+use Rattle.std.proofs.Common.{◌≡◌, ℕ, List, Option, None, Some, inl, inr, refl, sym, subst}
 use Rattle.kernel_model.specs.View.{state_of}
 use Rattle.kernel_model.specs.Walk.{trail_of}
 use Rattle.mark_server.specs.Sockets.{Sockets, socket_of}

@@ -1,5 +1,5 @@
 -- What is asked of a watched kernel is asked of the kernel under the watch.
-use Rattle.std.proofs.Common.{◌≡◌, ◌∙◌, ◌⊎◌, ℕ, ◌≤◌, List, [], ◌∷◌, length, Option, Result, Ok, Err, inl, inr, sym, ap, subst}
+use Rattle.std.proofs.Common.{◌≡◌, ◌∙◌, ℕ, ◌≤◌, List, [], ◌∷◌, length, Option, Result, Ok, Err, inl, inr, sym, ap, subst}
 use Rattle.std.specs.declared.alloc.AllocError.{AllocError}
 use Rattle.commands.specs.declared.command.Command.{Command}
 use Rattle.kernel_model.specs.State.{KernelState}

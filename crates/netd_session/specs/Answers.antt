@@ -11,7 +11,6 @@ use Rattle.net_control.specs.Applied.{IsAnswered}
 use Rattle.net_control.specs.Bounds.{KeepsLimit}
 use Rattle.net_control.specs.Causes.{HasCause}
 use Rattle.net_control.specs.Moments.{GoesOnce, IsAsBefore, KeepsLockdown, KeepsPolicy}
-use Rattle.net_names.specs.declared.code.Code.{Code}
 use Rattle.net_names.specs.declared.code.Code.TheVariants as code
 use Rattle.policy_meaning.specs.Policy.{policy}
 use Rattle.policy_state.specs.Step.{changed}
@@ -33,9 +32,8 @@ use Rattle.script_reader.specs.declared.line.Line.TheVariants as line
 use Rattle.script_reader.specs.declared.line.ShowLine.{ShowLine}
 use Rattle.script_reader.specs.declared.line.ShowLine.TheVariants as show
 use Rattle.script_reader.specs.declared.line.TraceLine.TheVariants as trace
-use Rattle.turn_text.specs.Texts.{answer_text, line_feed, numbered, refused_text}
+use Rattle.turn_text.specs.Texts.{answer_text, line_feed, numbered}
 use Rattle.turn_text.specs.declared.answer.Answer.{Answer}
-use Rattle.turn_text.specs.declared.answer.Answer.TheVariants as answer
 use Rattle.uid_ranges.specs.declared.range.Uid.{Uid}
 use Rattle.netd_session.specs.SocketLines.{IsSocketLine}
 use Rattle.netd_session.specs.Told.{IsDone, IsRefused, IsTold}
@@ -43,7 +41,6 @@ use Rattle.netd_session.specs.Turns.{Standing, turn_of}
 use Rattle.netd_session.specs.Watches.{IsWatched, requests_text}
 use Rattle.netd_session.specs.declared.answer.Telling.{Telling}
 use Rattle.netd_session.specs.declared.answer.Telling.TheVariants as telling
-use Rattle.netd_session.specs.declared.turn.Said.{Said}
 use Rattle.netd_session.specs.declared.turn.Said.TheVariants as said
 use Rattle.netd_session.specs.declared.turn.Turn.{Turn}
 use Rattle.netd_session.specs.declared.watch.Watch.{Watch}

@@ -1,7 +1,10 @@
 -- What a socket's line says, and what it changes. No such line asks the kernel anything or changes the policy's state.
 use Rattle.std.specs.Prelude.{ℕ, List, ◌++◌, codes, Result, Ok, Err}
+use Rattle.std.specs.declared.alloc.AllocError.{AllocError}
 use Rattle.mark_server.specs.Access.{access}
 use Rattle.mark_server.specs.Sockets.{Sockets, accepting, after, answer, binding, closed, closing, connecting, mark_in, opening, protecting, put_last, selecting, selecting_for, unbinding}
+use Rattle.mark_server.specs.declared.fault.SocketFault.{SocketFault}
+use Rattle.mark_server.specs.declared.fault.SocketFault.TheVariants as fault
 use Rattle.net_names.specs.declared.code.Code.{Code}
 use Rattle.script_reader.specs.declared.line.SocketLine.{SocketLine}
 use Rattle.script_reader.specs.declared.line.SocketLine.TheVariants as socket
@@ -27,6 +30,12 @@ said_of_mark (Err c) = said.Answered (became.Refused c)
 abbrev pub text_of_mark : Result ℕ Code → List ℕ
 text_of_mark (Ok mark) = mark_line mark
 text_of_mark (Err c) = refused_text c
+
+-- what a call that makes a socket tells: its mark or a code, where there was memory
+abbrev pub told_of_opening : Result ℕ SocketFault → Result (Result ℕ Code) AllocError
+told_of_opening (Ok mark) = Ok (Ok mark)
+told_of_opening (Err (fault.Refused c)) = Ok (Err c)
+told_of_opening (Err (fault.Memory e)) = Err e
 
 -- a call, by what it answers and by the sockets after it, which are those before it where it is refused
 abbrev pub IsMarked : Result ℕ Code → Sockets → ℕ → (s e : Standing) → List Turn → List ℕ → Type 0

@@ -4,7 +4,7 @@ ghost use Rattle.script_reader.specs.declared.line.Line.TheVariants as line;
 ghost use Rattle.script_reader.specs.declared.line.SocketLine.TheVariants as socket;
 ghost use Rattle.turn_text.specs.Texts.{answer_room, answer_text, numbered};
 ghost use Rattle.netd_session.specs.Lines.{Answers};
-ghost use Rattle.netd_session.specs.SocketLines.{mark_line, said_of_mark, text_of_mark};
+ghost use Rattle.netd_session.specs.SocketLines.{mark_line, said_of_mark, text_of_mark, told_of_opening};
 ghost use Rattle.netd_session.specs.Talks.{stands};
 ghost use Rattle.netd_session.specs.Turns.{turn_of};
 ghost use Rattle.netd_session.specs.Watches.{watch_without};
@@ -45,6 +45,17 @@ fn put_mark(number: u32, mark: u32, out: &mut Vec<u8>)
     ensures { out.new.items ≡ out.old.items ++ numbered number (mark_line mark) }
 {
     let _ = write_new_mark(number, mark, out);
+}
+
+// The mark of a socket that was made, or why it is refused.
+fn made_of(opened: Result<u32, SocketFault>) -> Result<Result<u32, Code>, AllocError>
+    ensures { result ≡ told_of_opening opened }
+{
+    match opened {
+        Ok(mark) => Ok(Ok(mark)),
+        Err(SocketFault::Refused { code }) => Ok(Err(code)),
+        Err(SocketFault::Memory(fault)) => Err(fault),
+    }
 }
 
 // What is watched once the socket of this name is closed.
@@ -120,17 +131,9 @@ impl Talk {
             self.new.turns.items self.new.answer.items }
         ensures controller { self.new.controller ≡ self.old.controller }
     {
-        match self.sockets.open(name, uid) {
-            Ok(mark) => {
-                self.put_made(number, Ok(mark), kernel);
-                Ok(())
-            }
-            Err(SocketFault::Refused { code }) => {
-                self.put_made(number, Err(code), kernel);
-                Ok(())
-            }
-            Err(SocketFault::Memory(fault)) => Err(fault),
-        }
+        let made = made_of(self.sockets.open(name, uid))?;
+        self.put_made(number, made, kernel);
+        Ok(())
     }
 
     fn accept_socket<K: Kernel>(
@@ -150,20 +153,12 @@ impl Talk {
             self.new.turns.items self.new.answer.items }
         ensures controller { self.new.controller ≡ self.old.controller }
     {
-        match self
+        let accepted = self
             .sockets
-            .accept(self.controller.state(), name, uid, link)
-        {
-            Ok(mark) => {
-                self.put_made(number, Ok(mark), kernel);
-                Ok(())
-            }
-            Err(SocketFault::Refused { code }) => {
-                self.put_made(number, Err(code), kernel);
-                Ok(())
-            }
-            Err(SocketFault::Memory(fault)) => Err(fault),
-        }
+            .accept(self.controller.state(), name, uid, link);
+        let made = made_of(accepted)?;
+        self.put_made(number, made, kernel);
+        Ok(())
     }
 
     // Closes a socket, which ends its watch.

@@ -6,7 +6,7 @@ use Rattle.kernel_model.specs.declared.request.Entry.{Entry}
 use Rattle.net_control.specs.Applied.{IsAnswered}
 use Rattle.net_control.specs.Bounds.{KeepsLimit}
 use Rattle.net_control.specs.Causes.{HasCause}
-use Rattle.net_control.specs.Moments.{GoesOnce, IsAsBefore, KeepsLockdown, KeepsPolicy, SendsByPolicy}
+use Rattle.net_control.specs.Moments.{GoesOnce, KeepsLockdown, KeepsPolicy, SendsByPolicy}
 use Rattle.net_control.specs.View.{IsKept}
 use Rattle.packet_trace.specs.Changes.{changes_since}
 use Rattle.policy_state.specs.Step.{changed}

@@ -1,10 +1,7 @@
-use Rattle.std.proofs.Common.{◌≡◌, ◌∙◌, List, Ok, [], None, refl, sym, subst, ap}
+use Rattle.std.proofs.Common.{◌≡◌, ◌∙◌, List, [], None, refl, subst, ap}
 use Rattle.kernel_model.specs.View.{KernelView}
 use Rattle.mark_server.specs.Sockets.{Sockets}
-use Rattle.net_control.specs.Started.{IsStarted}
-use Rattle.net_control.specs.Moments.{KeepsPolicy, SendsByPolicy}
 use Rattle.net_control.specs.View.{ControllerView}
-use Rattle.policy_state.specs.View.{start}
 use Rattle.netd_session.specs.Ends.{HasBegun}
 use Rattle.netd_session.specs.EndedView.{EndedView}
 use Rattle.netd_session.specs.Stops.{End}

@@ -1,4 +1,4 @@
-use Rattle.std.proofs.Common.{◌≤◌, ◌+◌, ◌<◌, ◌^◌, ◌++◌, ℕ, codes, length, arith, lit<, lit≤, length-append}
+use Rattle.std.proofs.Common.{◌≤◌, ◌<◌, ◌^◌, ◌++◌, ℕ, codes, length, arith, lit<, lit≤, length-append}
 use Rattle.std.specs.Fmt.{decimal}
 use Rattle.number_text.proofs.Spelled.{length-digits-le}
 use Rattle.number_text.specs.Numbers.{hexadecimal}

@@ -1,4 +1,4 @@
-use Rattle.std.proofs.Common.{◌≡◌, ◌≤◌, ◌+◌, ◌++◌, ap, arith, length, length-append, vec_len}
+use Rattle.std.proofs.Common.{◌≡◌, ◌≤◌, ◌++◌, ap, arith, length, length-append}
 use Rattle.netd_session.proofs.Rooms.{from_ok, written_ok}
 use Rattle.netd_session.specs.Watches.{request_room, request_text}
 use Rattle.netd_session.proofs.watch.put_request.Goals as goal

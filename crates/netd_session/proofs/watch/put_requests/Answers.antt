@@ -1,13 +1,11 @@
-use Rattle.std.proofs.Common.{◌≡◌, ◌∙◌, ◌≤◌, ◌<◌, ◌+◌, ◌++◌, ◌∷◌, [], ℕ, List, Some, ap, sym, append_assoc, arith, get_or, length, slice_get, take}
+use Rattle.std.proofs.Common.{◌≡◌, ◌∙◌, ◌<◌, ◌+◌, ◌++◌, ◌∷◌, [], ℕ, List, Some, ap, sym, append_assoc, arith, get_or, length, slice_get, take}
 use Rattle.std.proofs.lemmas.List.{append-nil, take_all, take_more}
 use Rattle.std.proofs.lemmas.List.Concat.{flat_map-append}
 use Rattle.std.proofs.lemmas.Option.{get_or_from_slice_get, slice_get_within}
-use Rattle.std.specs.List.{flat_map}
 use Rattle.packet_trace.specs.Changes.{changes_since}
 use Rattle.policy_state.specs.View.{StateView}
 use Rattle.rule_match.specs.declared.verdict.Verdict.{Verdict}
-use Rattle.netd_session.specs.Watches.{noted_text, request_room, request_text}
-use Rattle.netd_session.proofs.watch.put_requests.Given.{Over}
+use Rattle.netd_session.specs.Watches.{noted_text, request_text}
 use Rattle.netd_session.proofs.watch.put_requests.Goals as goal
 
 -- one change more

@@ -1,9 +1,8 @@
-use Rattle.std.proofs.Common.{◌≡◌, ◌≤◌, ◌++◌, ℕ, List, Ok, Err, codes, false, true, length, ap, arith, length-append}
+use Rattle.std.proofs.Common.{◌≤◌, ◌++◌, ℕ, List, Ok, Err, codes, length, ap, arith, length-append}
 use Rattle.std.specs.Fmt.{decimal}
 use Rattle.number_text.proofs.Appending.{both, rewritten}
-use Rattle.turn_text.specs.Texts.{numbered}
 use Rattle.netd_session.proofs.Rooms.{digits_10, no_room, room_left, then_ok}
-use Rattle.netd_session.specs.Watches.{change_text, request_room, request_text}
+use Rattle.netd_session.specs.Watches.{change_text, request_room}
 use Rattle.netd_session.proofs.watch.write_request.Goals as goal
 
 abbrev front : ℕ → List ℕ

@@ -1,11 +1,10 @@
-use Rattle.std.proofs.Common.{◌≡◌, ◌∙◌, Some, ap, sym, refl, subst, IsNone, Option}
+use Rattle.std.proofs.Common.{◌≡◌, ◌∙◌, Some, ap, sym, refl}
 use Rattle.kernel_model.specs.View.{state_of}
 use Rattle.kernel_model.specs.Walk.{trail_of}
 use Rattle.net_names.specs.declared.code.Code.TheVariants as code
 use Rattle.policy_meaning.specs.Policy.{policy}
 use Rattle.policy_state.specs.View.{StateView, link_named}
 use Rattle.rule_match.specs.Packet.{lo}
-use Rattle.rule_match.specs.declared.packet.Packet.{Packet}
 use Rattle.script_reader.specs.declared.line.Line.TheVariants as line
 use Rattle.script_reader.specs.declared.line.TraceLine.TheVariants as trace
 use Rattle.netd_session.proofs.Taking.{refused, told}

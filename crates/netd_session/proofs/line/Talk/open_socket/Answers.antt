@@ -1,22 +1,24 @@
-use Rattle.std.proofs.Common.{◌≡◌, ◌∙◌, Ok, Err, ap}
-use Rattle.mark_server.specs.Sockets.{Sockets, accepting, opening}
-use Rattle.mark_server.specs.declared.fault.SocketFault.{SocketFault}
+use Rattle.std.proofs.Common.{◌∙◌, Ok, ap, sym}
+use Rattle.mark_server.specs.Sockets.{Sockets, opening, put_last}
 use Rattle.script_reader.specs.declared.line.Line.TheVariants as line
 use Rattle.script_reader.specs.declared.line.SocketLine.TheVariants as socket
-use Rattle.netd_session.proofs.Opened.{not_made}
-use Rattle.netd_session.proofs.Taking.{refused}
+use Rattle.netd_session.proofs.Opened.{opened, opened_line}
+use Rattle.netd_session.proofs.Taking.{told_then}
+use Rattle.netd_session.specs.SocketLines.{said_of_mark, text_of_mark}
 use Rattle.netd_session.specs.Talks.{stands}
 use Rattle.netd_session.specs.Turns.{standing}
 use Rattle.netd_session.proofs.line.Talk.open_socket.Goals as goal
 
-pub returns-in-Err-Refused-clause-answers : goal.returns-in-Err-Refused-clause-answers
-returns-in-Err-Refused-clause-answers g c =
+pub returns-clause-answers : goal.returns-clause-answers
+returns-clause-answers g c =
     let kernel = g.K.Kernel.seen c.args.kernel.now in
     let s = stands c.args.self.now kernel in
-    let e = stands c.put_made-in-Err-Refused.new.self kernel in
-    let code = c.in-Err-Refused.code in
-    let made : (opening c.args.name c.args.uid c.args.self.now.sockets) ≡ Err code = (c.in-Err-Refused.ensures.refused code).0 (ap (λ (f : SocketFault). Err f) c.in-Err-Refused.field-0-is) in
-    refused (line.Socket (socket.Open c.args.name c.args.uid)) (Ok tt) code c.args.number s e _ _ c.put_made-in-Err-Refused.new.self.answer.items
-    (not_made ((opening c.args.name c.args.uid c.args.self.now.sockets)) code c.args.name c.args.number s e c.put_made-in-Err-Refused.new.self.answer.items made)
-    (c.put_made-in-Err-Refused.ensures.stays ∙ ap (λ (x : Sockets). standing c.args.self.now.controller kernel x c.args.self.now.watch) c.in-Err-Refused.ensures.kept)
-    c.put_made-in-Err-Refused.ensures.turns c.put_made-in-Err-Refused.ensures.text tt
+    let e = stands c.put_made.new.self kernel in
+    let made = c.in_ok-made.made in
+    let model = opening c.args.name c.args.uid c.args.self.now.sockets in
+    let after = put_last c.args.name model c.args.self.now.sockets in
+    let both = opened c.open.result made model c.args.name c.args.self.now.sockets c.open.new.self (sym c.in_ok-made.was ∙ c.made_of.ensures) c.open.ensures.sockets c.open.ensures.mark c.open.ensures.kept c.open.ensures.refused in
+    told_then (line.Socket (socket.Open c.args.name c.args.uid)) (Ok tt) (said_of_mark made) (text_of_mark made) c.args.number s (record s { sockets = after }) e _ _ c.put_made.new.self.answer.items
+    (λ more. opened_line made model c.args.name c.args.number s e more c.put_made.new.self.answer.items both.0)
+    (c.put_made.ensures.stays ∙ ap (λ (x : Sockets). standing c.args.self.now.controller kernel x c.args.self.now.watch) both.1)
+    tt c.put_made.ensures.turns c.put_made.ensures.text tt
