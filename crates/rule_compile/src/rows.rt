@@ -9,12 +9,11 @@ ghost use Rattle.policy_state.specs.Rows.{
   link_item,
   user_item,
   split_item,
-  range_item,
-  pair_item,
   items_at,
   items_in,
 };
 ghost use Rattle.policy_state.specs.Table.{rule_of};
+ghost use Rattle.policy_state.specs.declared.row.Item.{Item};
 ghost use Rattle.policy_state.specs.declared.row.NetworkPart.TheVariants.{Whole, EachInterface, EachRange, EachDefault};
 ghost use Rattle.rule_compile.specs.Shapes.{shape_net};
 
@@ -41,22 +40,38 @@ pub(crate) fn nothing() -> Item
     }
 }
 
-fn range_item(range: UidRange) -> Item
-    ensures { result ≡ range_item range }
-{
-    Item {
-        users: Some(range),
-        ..nothing()
+/// What a row has one rule for, whatever the networks are.
+pub(crate) trait HasItem: Copy {
+    ghost item: { Self → Item };
+
+    fn item(self) -> Item
+        ensures { result ≡ item self };
+}
+
+impl HasItem for UidRange {
+    ghost use Rattle.policy_state.specs.Rows.{range_item};
+
+    ghost item = { range_item };
+
+    fn item(self) -> Item {
+        Item {
+            users: Some(self),
+            ..nothing()
+        }
     }
 }
 
-fn pair_item(pair: TetherPair) -> Item
-    ensures { result ≡ pair_item pair }
-{
-    Item {
-        incoming: pair.input,
-        link: pair.out,
-        ..nothing()
+impl HasItem for TetherPair {
+    ghost use Rattle.policy_state.specs.Rows.{pair_item};
+
+    ghost item = { pair_item };
+
+    fn item(self) -> Item {
+        Item {
+            incoming: self.input,
+            link: self.out,
+            ..nothing()
+        }
     }
 }
 
@@ -237,30 +252,17 @@ pub(crate) fn push_networks(
     Ok(())
 }
 
-pub(crate) fn push_lockdown(
+/// Appends a row's rule for each of these.
+pub(crate) fn push_each<T: HasItem>(
     rules: &mut Vec<Rule>,
     row: &Row,
-    lockdown: &[UidRange],
+    each: &[T],
 ) -> Result<(), AllocError>
     ensures { IfOk result (λ _. rules.new.items ≡ rules.old.items ++
-        map (rule_of row.now) (map range_item lockdown.now)) }
+        map (rule_of row.now) (map T.item each.now)) }
 {
-    for range in lockdown {
-        rules.push(rule_of(row, &range_item(*range)))?;
-    }
-    Ok(())
-}
-
-pub(crate) fn push_pairs(
-    rules: &mut Vec<Rule>,
-    row: &Row,
-    pairs: &[TetherPair],
-) -> Result<(), AllocError>
-    ensures { IfOk result (λ _. rules.new.items ≡ rules.old.items ++
-        map (rule_of row.now) (map pair_item pairs.now)) }
-{
-    for pair in pairs {
-        rules.push(rule_of(row, &pair_item(*pair)))?;
+    for one in each {
+        rules.push(rule_of(row, &one.item()))?;
     }
     Ok(())
 }

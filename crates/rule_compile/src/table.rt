@@ -9,7 +9,7 @@ ghost use Rattle.policy_state.specs.Table.{in_order, rules_in, rule_table};
 ghost use Rattle.rule_compile.specs.Shapes.{shape_net, unrouted};
 
 use crate::change_parts::home_of;
-use crate::rows::{nothing, push_lockdown, push_networks, push_pairs};
+use crate::rows::{nothing, push_each, push_networks};
 use crate::rule::rule_of;
 use crate::shape::Shape;
 use policy_state::{OnePer, ROWS, Row, State};
@@ -60,8 +60,8 @@ fn push_row(
             rules.push(rule_of(row, &nothing()))?;
             Ok(())
         }
-        OnePer::EachLockdown => push_lockdown(rules, row, state.lockdown()),
-        OnePer::EachPair => push_pairs(rules, row, state.pairs()),
+        OnePer::EachLockdown => push_each(rules, row, state.lockdown()),
+        OnePer::EachPair => push_each(rules, row, state.pairs()),
         OnePer::EachOf(set, part) => {
             let networks = state.networks();
             push_networks(rules, row, set, part, state.default_net(), home, networks)

@@ -12,7 +12,7 @@ ghost use Rattle.rule_compile.specs.Shapes.{shape_net, unrouted};
 ghost use Rattle.rule_compile.specs.Touched as parts;
 
 use crate::part::Extent;
-use crate::rows::{push_lockdown, push_network, push_networks, push_pairs};
+use crate::rows::{push_each, push_network, push_networks};
 use crate::shape::Shape;
 use network_store::StoredNetworks;
 use policy_state::{NetworkPart, NetworkSet, OnePer, ROWS, Row, TetherPair};
@@ -131,8 +131,8 @@ fn push_row(rules: &mut Vec<Rule>, row: &Row, touched: &Touched) -> Result<(), A
 {
     match row.per {
         OnePer::Once => Ok(()),
-        OnePer::EachLockdown => push_lockdown(rules, row, touched.lockdown),
-        OnePer::EachPair => push_pairs(rules, row, touched.pairs),
+        OnePer::EachLockdown => push_each(rules, row, touched.lockdown),
+        OnePer::EachPair => push_each(rules, row, touched.pairs),
         OnePer::EachOf(set, NetworkPart::Whole) => {
             push_own(rules, row, set, NetworkPart::Whole, touched)
         }
