@@ -28,19 +28,35 @@ fn requests_in_order(alloc: Global, rules: &mut Vec<Rule>) -> Result<Vec<Request
     twins(alloc, rules)
 }
 
-/// The plan by the part of the state that the change touches.
-fn planned(alloc: Global, state: &State, change: &Change) -> Result<Plan, AllocError>
-    ensures { IfOk result (λ plan. plan ≡ planned state.now change.now) }
+/// The rules that come with the change, and then its route.
+fn additions(alloc: Global, state: &State, change: &Change) -> Result<Vec<Request>, AllocError>
+    ensures { IfOk result (λ adds. adds.items ≡ (planned state.now change.now).adds) }
 {
     let mut coming = rules_that_come(alloc, state, change)?;
     let mut adds = requests_in_order(alloc, &mut coming)?;
     adds.extend_from_slice(&routes_that_come(alloc, state, change)?)?;
+    Ok(adds)
+}
+
+/// The rules that go with it, the last one first, between the routes that go before them and after them.
+fn deletions(alloc: Global, state: &State, change: &Change) -> Result<Vec<Request>, AllocError>
+    ensures { IfOk result (λ deletes. deletes.items ≡ (planned state.now change.now).deletes) }
+{
     let mut going = rules_that_go(alloc, state, change)?;
     let mut gone = requests_in_order(alloc, &mut going)?;
     gone.reverse();
     let mut deletes = routes_that_go_first(alloc, state, change)?;
     deletes.extend_from_slice(&gone)?;
     deletes.extend_from_slice(&routes_that_go(alloc, state, change)?)?;
+    Ok(deletes)
+}
+
+/// The plan by the part of the state that the change touches.
+fn planned(alloc: Global, state: &State, change: &Change) -> Result<Plan, AllocError>
+    ensures { IfOk result (λ plan. plan ≡ planned state.now change.now) }
+{
+    let adds = additions(alloc, state, change)?;
+    let deletes = deletions(alloc, state, change)?;
     Ok(Plan::of(adds, deletes))
 }
 
