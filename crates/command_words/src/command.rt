@@ -1,7 +1,7 @@
-ghost use Rattle.std.specs.Prelude.{◌≡◌, false, IfOk};
-ghost use Rattle.clap.specs.Simple.{app_of};
+ghost use Rattle.std.specs.Prelude.{◌≡◌, false, codes, IfOk};
+ghost use Rattle.clap.specs.Simple.{app_of, new_app, on_top, with_subcommand};
 ghost use Rattle.clap.specs.declared.builder.command.Command.TheViews.{out-Command as fields_of};
-ghost use Rattle.command_words.specs.App.{named_app, netd_app, run_app};
+ghost use Rattle.command_words.specs.App.{first_app, named_app, netd_app, plain_shape, run_app};
 
 use crate::form::ALL_WORDLESS;
 use clap::{Arg, Command};
@@ -28,22 +28,45 @@ fn named_command<'a>(alloc: Global, name: &'a str) -> Result<Command<'a>, AllocE
     Command::new(alloc, name).arg(words)
 }
 
-/// The command line, with a subcommand for each form.
-pub fn netd_command<'a>(alloc: Global) -> Result<Command<'a>, AllocError>
-    ensures { IfOk result (λ command. app_of command ≡ netd_app) }
+/// The command line before it has subcommands.
+fn plain_command<'a>(alloc: Global) -> Command<'a>
+    ensures { app_of result ≡ on_top plain_shape (new_app (codes "netd_run")) }
 {
-    let run = run_command(alloc)?;
-    let plain = Command::new(alloc, "netd_run")
+    Command::new(alloc, "netd_run")
         .no_binary_name(true)
         .disable_help_flag(true)
         .disable_version_flag(true)
         .disable_help_subcommand(true)
-        .subcommand_required(true);
-    let mut command = plain
-        .subcommand(run)?
-        .subcommand(named_command(alloc, "soak")?)?;
+        .subcommand_required(true)
+}
+
+/// The command with a subcommand of this name too.
+fn with_named<'a>(
+    alloc: Global,
+    command: Command<'a>,
+    name: &'a str,
+) -> Result<Command<'a>, AllocError>
+    ensures { IfOk result (λ more.
+        app_of more ≡ with_subcommand (app_of command.entry) (named_app name.entry.now).top) }
+{
+    command.subcommand(named_command(alloc, name)?)
+}
+
+/// The command line with the forms that have words of their own.
+fn first_command<'a>(alloc: Global) -> Result<Command<'a>, AllocError>
+    ensures { IfOk result (λ command. app_of command ≡ first_app) }
+{
+    let run = run_command(alloc)?;
+    with_named(alloc, plain_command(alloc).subcommand(run)?, "soak")
+}
+
+/// The command line, with a subcommand for each form.
+pub fn netd_command<'a>(alloc: Global) -> Result<Command<'a>, AllocError>
+    ensures { IfOk result (λ command. app_of command ≡ netd_app) }
+{
+    let mut command = first_command(alloc)?;
     for form in ALL_WORDLESS {
-        command = command.subcommand(named_command(alloc, form.name())?)?;
+        command = with_named(alloc, command, form.name())?;
     }
     Ok(command)
 }

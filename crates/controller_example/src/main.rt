@@ -97,6 +97,13 @@ fn evening(name: Name, prefix: Prefix) -> [Command; 6] {
     ]
 }
 
+fn tell_fault(fault: StartFault, out: &mut Vec<u8>) -> Result<(), AllocError> {
+    match fault {
+        StartFault::Memory(fault) => Err(fault),
+        StartFault::Refused { .. } | StartFault::Halted { .. } => append_bytes(b"no start\n", out),
+    }
+}
+
 /// Starts a controller over the kernel, and applies the commands.
 fn run<K: Kernel>(
     alloc: Global,
@@ -108,11 +115,7 @@ fn run<K: Kernel>(
 {
     match Controller::start(alloc, kernel) {
         Ok(mut controller) => apply_all(&mut controller, kernel, commands, out),
-        Err(StartFault::Memory(fault)) => Err(fault),
-        Err(StartFault::Refused { .. }) | Err(StartFault::Halted { .. }) => append_bytes(
-            b"no start\n",
-            out,
-        ),
+        Err(fault) => tell_fault(fault, out),
     }
 }
 

@@ -1,5 +1,5 @@
 -- From a plan that was carried out, or stopped, to the answer of its command.
-use Rattle.std.proofs.Common.{◌≡◌, ◌∙◌, None, Some, Result, Ok, Err, ℕ, Option, sym, ap, ap₂, subst, inr}
+use Rattle.std.proofs.Common.{◌≡◌, ◌∙◌, Result, Ok, Err, ℕ, Option, sym, ap, ap₂, subst, inr}
 use Rattle.std.proofs.lemmas.Option.{none-some}
 use Rattle.std.specs.declared.alloc.AllocError.{AllocError}
 use Rattle.commands.specs.declared.command.Command.{Command}

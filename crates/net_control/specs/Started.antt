@@ -26,3 +26,8 @@ IsStarted (Err (fault.Halted request)) before after =
     (entries : List Entry) × IsHalted start_adds [] entries
     × (after ≡ grown before entries) × (request ≡ length before.journal + length entries)
 IsStarted (Err (fault.Memory e)) before after = after ≡ before
+
+-- the same of the requests alone, which leave a controller that runs to be made
+abbrev pub IsStartAsked : Result (Unit {0}) StartFault → (before after : KernelView) → Type 0
+IsStartAsked (Ok u) before after = IsStarted (Ok (running start)) before after
+IsStartAsked (Err e) before after = IsStarted (Err e) before after

@@ -96,9 +96,9 @@ fn make_room<K: Kernel>(kernel: &mut K, plan: &Plan, most: u64) -> Result<(), Al
 
 impl Controller {
     ghost use Rattle.kernel_model.specs.Form.{AreWellFormed};
-    ghost use Rattle.net_control.specs.Started.{IsStarted};
+    ghost use Rattle.net_control.specs.Started.{IsStarted, IsStartAsked};
     ghost use Rattle.net_control.specs.Applied.{IsAnswered};
-    ghost use Rattle.net_control.specs.View.{IsKept};
+    ghost use Rattle.net_control.specs.View.{IsKept, running};
     ghost use Rattle.net_control.specs.Bounds.{KeepsLimit};
     ghost use Rattle.net_control.specs.Causes.{HasCause, HasStartCause};
     ghost use Rattle.net_control.specs.Moments.{GoesOnce, IsAsBefore, IsStartAsBefore, KeepsLockdown, KeepsPolicy, SendsByPolicy};
@@ -109,15 +109,11 @@ impl Controller {
     ghost use Rattle.policy_state.specs.Step.{changed};
 
     // Asks for the rules of the first state.
-    fn ask_start<K: Kernel>(alloc: Global, kernel: &mut K) -> Result<Controller, StartFault>
+    fn ask_start<K: Kernel>(alloc: Global, kernel: &mut K) -> Result<(), StartFault>
         requires { (K.seen kernel.old).journal ≡ [] }
-        ensures answer { IsStarted result (K.seen kernel.old) (K.seen kernel.new) }
-        ensures kept { IfOk result (λ controller. IsKept controller (K.seen kernel.new)) }
+        ensures answer { IsStartAsked result (K.seen kernel.old) (K.seen kernel.new) }
+        ensures kept { IfOk result (λ _. IsKept (running start) (K.seen kernel.new)) }
     {
-        let state = match State::start(alloc) {
-            Ok(state) => state,
-            Err(fault) => return Err(StartFault::Memory(fault)),
-        };
         let plan = match start_plan(alloc) {
             Ok(plan) => plan,
             Err(fault) => return Err(StartFault::Memory(fault)),
@@ -126,13 +122,29 @@ impl Controller {
             return Err(StartFault::Memory(fault));
         }
         match carry(&plan, kernel) {
-            Carried::Done => Ok(Controller {
+            Carried::Done => Ok(()),
+            Carried::Undone { request } => Err(StartFault::Refused { request }),
+            Carried::Halted { request } => Err(StartFault::Halted { request }),
+        }
+    }
+
+    // Makes the first state, and then asks for its rules.
+    fn make<K: Kernel>(alloc: Global, kernel: &mut K) -> Result<Controller, StartFault>
+        requires { (K.seen kernel.old).journal ≡ [] }
+        ensures answer { IsStarted result (K.seen kernel.old) (K.seen kernel.new) }
+        ensures kept { IfOk result (λ controller. IsKept controller (K.seen kernel.new)) }
+    {
+        let state = match State::start(alloc) {
+            Ok(state) => state,
+            Err(fault) => return Err(StartFault::Memory(fault)),
+        };
+        match Controller::ask_start(alloc, kernel) {
+            Ok(()) => Ok(Controller {
                 alloc,
                 state,
                 halted: None,
             }),
-            Carried::Undone { request } => Err(StartFault::Refused { request }),
-            Carried::Halted { request } => Err(StartFault::Halted { request }),
+            Err(fault) => Err(fault),
         }
     }
 
@@ -163,7 +175,7 @@ impl Controller {
         own_rule_means_start();
         table_means_policy();
         barred_stays_in();
-        Controller::ask_start(alloc, kernel)
+        Controller::make(alloc, kernel)
     }
 
     /// The state of the policy.

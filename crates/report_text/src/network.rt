@@ -18,8 +18,9 @@ ghost use Rattle.report_text.specs.NetworkTexts.{
 ghost use Rattle.word_text.specs.Grammar.{permission_text};
 ghost use Rattle.network_store.specs.Store.{nets_of};
 ghost use Rattle.network_store.specs.Stored as stored;
+ghost use Rattle.std.specs.Fmt.{decimal};
 ghost use Rattle.std.specs.List.{join_with_byte};
-ghost use Rattle.std.specs.Prelude.{◌≡◌, ◌<◌, ◌++◌, Some, codes, flat_map, length, map, slice_get};
+ghost use Rattle.std.specs.Prelude.{◌≡◌, ◌<◌, ◌++◌, ◌∷◌, [], Some, codes, flat_map, length, map, slice_get};
 
 use crate::link::write_link;
 use fwmark::Permission;
@@ -30,6 +31,13 @@ use std::alloc::AllocError;
 use uid_ranges::Ranked;
 use word_text::{write_permission, write_range};
 
+fn write_link_and_comma(state: &State, link: u16, out: &mut Vec<u8>) -> Result<(), AllocError>
+    ensures { Appends out.old out.new result (link_text state.now link ++ comma ∷ []) }
+{
+    write_link(state, link, out)?;
+    append_byte(b',', out)
+}
+
 // Appends the names of links with a comma between each two.
 fn write_joined_names(state: &State, links: &[u16], out: &mut Vec<u8>) -> Result<(), AllocError>
     ensures { Appends out.old out.new result
@@ -39,8 +47,7 @@ fn write_joined_names(state: &State, links: &[u16], out: &mut Vec<u8>) -> Result
         [] => Ok(()),
         [link] => write_link(state, *link, out),
         [link, more @ ..] => {
-            write_link(state, *link, out)?;
-            append_byte(b',', out)?;
+            write_link_and_comma(state, *link, out)?;
             write_joined_names(state, more, out)
         }
     }
@@ -72,6 +79,13 @@ fn write_ranked(range: Ranked, out: &mut Vec<u8>) -> Result<(), AllocError>
     write_rank(range.rank, out)
 }
 
+fn write_ranked_and_comma(range: Ranked, out: &mut Vec<u8>) -> Result<(), AllocError>
+    ensures { Appends out.old out.new result (ranked_text range ++ comma ∷ []) }
+{
+    write_ranked(range, out)?;
+    append_byte(b',', out)
+}
+
 // Appends ranges with a comma between each two.
 fn write_joined_ranges(ranges: &[Ranked], out: &mut Vec<u8>) -> Result<(), AllocError>
     ensures { Appends out.old out.new result
@@ -81,8 +95,7 @@ fn write_joined_ranges(ranges: &[Ranked], out: &mut Vec<u8>) -> Result<(), Alloc
         [] => Ok(()),
         [range] => write_ranked(*range, out),
         [range, more @ ..] => {
-            write_ranked(*range, out)?;
-            append_byte(b',', out)?;
+            write_ranked_and_comma(*range, out)?;
             write_joined_ranges(more, out)
         }
     }
@@ -173,6 +186,19 @@ fn is_default(state: &State, id: u16) -> bool
     }
 }
 
+fn write_id_and_kind(
+    state: &State,
+    network: &StoredNetwork,
+    out: &mut Vec<u8>,
+) -> Result<(), AllocError>
+    ensures { Appends out.old out.new result (decimal network.now.id ++ codes " "
+        ++ kind_text (is_default state.now.default network.now.id) (stored.net_of network.now).kind) }
+{
+    write_decimal(u64::from(network.id), out)?;
+    append_byte(b' ', out)?;
+    write_kind(&network.kind, is_default(state, network.id), out)
+}
+
 /// Appends a network, without spaces before it and without a line feed.
 pub fn write_network(
     state: &State,
@@ -181,9 +207,7 @@ pub fn write_network(
 ) -> Result<(), AllocError>
     ensures { Appends out.old out.new result (network_text state.now (stored.net_of network.now)) }
 {
-    write_decimal(u64::from(network.id), out)?;
-    append_byte(b' ', out)?;
-    write_kind(&network.kind, is_default(state, network.id), out)?;
+    write_id_and_kind(state, network, out)?;
     append_bytes(b" interfaces ", out)?;
     write_names(state, network.interfaces.as_slice(), out)
 }

@@ -1,5 +1,6 @@
-ghost use Rattle.std.specs.Prelude.{◌≡◌, ◌<◌, Some, flat_map, length, slice_get};
+ghost use Rattle.std.specs.Prelude.{◌≡◌, ◌<◌, ◌++◌, Some, codes, flat_map, length, slice_get};
 ghost use Rattle.number_text.specs.Appends.{Appends};
+ghost use Rattle.word_text.specs.Texts.{mark_text};
 ghost use Rattle.report_text.specs.SocketTexts.{bound_text, line_text, socket_line, sockets_text, user_text};
 
 use crate::link::write_link;
@@ -29,6 +30,15 @@ fn write_user(name: &Name, uid: Uid, out: &mut Vec<u8>) -> Result<(), AllocError
     write_decimal(u64::from(uid.number()), out)
 }
 
+fn write_user_and_mark(name: &Name, socket: &Socket, out: &mut Vec<u8>) -> Result<(), AllocError>
+    ensures { Appends out.old out.new result
+        (user_text name.now socket.now.uid ++ codes " mark " ++ mark_text socket.now.mark) }
+{
+    write_user(name, socket.uid, out)?;
+    append_bytes(b" mark ", out)?;
+    write_mark(socket.mark, out)
+}
+
 fn write_line(
     state: &State,
     name: &Name,
@@ -37,9 +47,7 @@ fn write_line(
 ) -> Result<(), AllocError>
     ensures { Appends out.old out.new result (line_text state.now name.now socket.now) }
 {
-    write_user(name, socket.uid, out)?;
-    append_bytes(b" mark ", out)?;
-    write_mark(socket.mark, out)?;
+    write_user_and_mark(name, socket, out)?;
     append_bytes(b" bound ", out)?;
     write_bound(state, socket.bound, out)?;
     append_byte(b'\n', out)

@@ -1,4 +1,5 @@
-ghost use Rattle.std.specs.Prelude.{◌≡◌, ◌<◌, Some, length, slice_get};
+ghost use Rattle.std.specs.Fmt.{decimal};
+ghost use Rattle.std.specs.Prelude.{◌≡◌, ◌<◌, ◌++◌, Some, codes, length, slice_get};
 ghost use Rattle.number_text.specs.Appends.{Appends};
 ghost use Rattle.report_text.specs.Actions.{action_text};
 ghost use Rattle.report_text.specs.Trails.{step_text, trail_text};
@@ -24,13 +25,19 @@ pub fn write_action(action: Action, out: &mut Vec<u8>) -> Result<(), AllocError>
     }
 }
 
+fn write_priority(priority: u32, out: &mut Vec<u8>) -> Result<(), AllocError>
+    ensures { Appends out.old out.new result (codes "  " ++ decimal priority ++ codes " ") }
+{
+    append_bytes(b"  ", out)?;
+    write_number(priority, out)?;
+    append_byte(b' ', out)
+}
+
 /// Appends the line of a step.
 pub fn write_step(step: Step, out: &mut Vec<u8>) -> Result<(), AllocError>
     ensures { Appends out.old out.new result (step_text step) }
 {
-    append_bytes(b"  ", out)?;
-    write_number(step.priority, out)?;
-    append_byte(b' ', out)?;
+    write_priority(step.priority, out)?;
     write_action(step.action, out)?;
     append_byte(b'\n', out)
 }

@@ -1,7 +1,7 @@
 use Rattle.std.proofs.Common.{◌∙◌, ap, ap₂, fold, sym}
 use Rattle.std.proofs.lemmas.List.{take_all}
 use Rattle.std.proofs.lemmas.List.Sums.{fold_more}
-use Rattle.clap.specs.Simple.{App, with_subcommand}
+use Rattle.clap.specs.Simple.{with_subcommand}
 use Rattle.command_words.specs.App.{first_app, named_app, with_wordless}
 use Rattle.command_words.specs.Forms.{Text}
 use Rattle.command_words.specs.declared.form.TheConstants.{ALL_WORDLESS}
@@ -10,9 +10,8 @@ use Rattle.command_words.proofs.command.netd_command.Goals as goal
 
 pub loop-form-preserved : goal.loop-form-preserved
 loop-form-preserved c =
-    c.in_ok-command-2.ensures.shape c.in_ok-named_command-2.ensures.local
-    ∙ ap₂ with_subcommand c.loop-form.invariant
-    (ap (λ (a : App). a.top) c.in_ok-named_command-2.ensures.app ∙ ap (λ (t : Text). (named_app t).top) c.name.ensures)
+    c.in_ok-command-2.ensures
+    ∙ ap₂ with_subcommand c.loop-form.invariant (ap (λ (t : Text). (named_app t).top) c.name.ensures)
     ∙ sym (fold_more with_wordless first_app ALL_WORDLESS c.loop-form.form-index Check c.loop-form-test.true)
 
 pub returns : goal.returns

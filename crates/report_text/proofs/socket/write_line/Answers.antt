@@ -4,6 +4,5 @@ use Rattle.report_text.proofs.socket.write_line.Goals as goal
 
 pub returns : goal.returns
 returns c =
-    let mark = both (Ok tt) (both (Ok tt) c.in_ok-write_user.ensures c.in_ok-append_bytes.ensures) c.in_ok-write_mark.ensures in
-    let bound = both (Ok tt) (both (Ok tt) mark c.in_ok-append_bytes-2.ensures) c.in_ok-write_bound.ensures in
+    let bound = both (Ok tt) (both (Ok tt) c.in_ok-write_user_and_mark.ensures c.in_ok-append_bytes.ensures) c.in_ok-write_bound.ensures in
     both c.append_byte.result bound c.append_byte.ensures

@@ -17,27 +17,27 @@ use Rattle.std.specs.Prelude.{length}
 use Rattle.net_control.proofs.controller.Controller.start.Goals as goal
 
 pub returns-clause-sends : goal.returns-clause-sends
-returns-clause-sends g c = started_sends c.ask_start.result (g.K.Kernel.seen c.ask_start.new.kernel) (λ s k packet. c.table_means_policy.ensures s k packet) (λ s packet. c.barred_stays_in.ensures s packet) c.ask_start.ensures.kept
+returns-clause-sends g c = started_sends c.make.result (g.K.Kernel.seen c.make.new.kernel) (λ s k packet. c.table_means_policy.ensures s k packet) (λ s packet. c.barred_stays_in.ensures s packet) c.make.ensures.kept
 
 pub returns-clause-caused : goal.returns-clause-caused
-returns-clause-caused g c = has_start_cause c.ask_start.result (g.K.Kernel.seen c.args.kernel.now) (g.K.Kernel.seen c.ask_start.new.kernel) c.ask_start.ensures.answer
+returns-clause-caused g c = has_start_cause c.make.result (g.K.Kernel.seen c.args.kernel.now) (g.K.Kernel.seen c.make.new.kernel) c.make.ensures.answer
 
 pub returns-clause-moments : goal.returns-clause-moments
 returns-clause-moments g c =
     let before = g.K.Kernel.seen c.args.kernel.now in
     let first : state_of before ≡ kernel_start = ap replay c.requires in
-    begun c.ask_start.result before (g.K.Kernel.seen c.ask_start.new.kernel)
+    begun c.make.result before (g.K.Kernel.seen c.make.new.kernel)
     (λ packet. subst (λ (k : KernelState). walk k packet ≡ policy start packet) (sym first) (c.own_rule_means_start.ensures packet))
     (λ entries segment packet. subst (λ (k : KernelState). GoesOverAndBack (length entries) (walk_along k packet entries) (policy start packet) (policy start packet)) (sym first)
     (by_policy (c.own_rule_means_start.ensures packet) (c.table_means_policy.ensures start started packet good-start c.start_law.ensures.stands)
     (c.start_law.ensures.segment packet entries segment)))
-    c.ask_start.ensures.answer
+    c.make.ensures.answer
 
 pub returns-clause-formed : goal.returns-clause-formed
-returns-clause-formed g c = start_formed c.ask_start.result (g.K.Kernel.seen c.args.kernel.now) (g.K.Kernel.seen c.ask_start.new.kernel) c.ask_start.ensures.answer c.requires
+returns-clause-formed g c = start_formed c.make.result (g.K.Kernel.seen c.args.kernel.now) (g.K.Kernel.seen c.make.new.kernel) c.make.ensures.answer c.requires
 
 pub returns-clause-once : goal.returns-clause-once
-returns-clause-once g c = start_once (g.K.Kernel.seen c.args.kernel.now) (g.K.Kernel.seen c.ask_start.new.kernel) (returns-clause-moments g c)
+returns-clause-once g c = start_once (g.K.Kernel.seen c.args.kernel.now) (g.K.Kernel.seen c.make.new.kernel) (returns-clause-moments g c)
 
 pub returns-clause-as_before : goal.returns-clause-as_before
-returns-clause-as_before g c = start_as_before c.ask_start.result (g.K.Kernel.seen c.args.kernel.now) (g.K.Kernel.seen c.ask_start.new.kernel) c.requires c.ask_start.ensures.answer
+returns-clause-as_before g c = start_as_before c.make.result (g.K.Kernel.seen c.args.kernel.now) (g.K.Kernel.seen c.make.new.kernel) c.requires c.make.ensures.answer

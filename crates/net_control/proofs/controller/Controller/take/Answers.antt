@@ -3,7 +3,6 @@ use Rattle.commands.specs.declared.command.Command.{Command}
 use Rattle.kernel_model.specs.PlanView.{PlanView}
 use Rattle.kernel_model.specs.View.{KernelView, state_of}
 use Rattle.policy_state.specs.Change.{turned}
-use Rattle.policy_state.specs.Step.{changed, refusal}
 use Rattle.policy_state.specs.View.{StateView}
 use Rattle.rule_compile.specs.Asked.{asked, MayStep}
 use Rattle.net_control.specs.Applied.{IsAnswered}
