@@ -1,5 +1,5 @@
--- Finding the form of words, and reading their values.
-use Rattle.std.specs.Prelude.{◌≡◌, ℕ, ◌≤◌, true, List, drop, Option, None, Some, Result, Ok, Err}
+-- Finding the form of words, and taking their values.
+use Rattle.std.specs.Prelude.{◌≡◌, ℕ, ◌≤◌, true, List, drop, Result, Ok, Err}
 use Rattle.std.specs.List.{AllByRecursion}
 use Rattle.std.specs.declared.alloc.AllocError.{AllocError}
 use Rattle.uid_ranges.specs.declared.range.UidRange.{UidRange}
@@ -9,11 +9,11 @@ use Rattle.script_reader.specs.declared.line.Line.{Line}
 use Rattle.word_text.specs.declared.values.Values.{Values as Slots}
 use Rattle.script_reader.specs.declared.words.Words.{Words}
 use Rattle.script_reader.specs.Cursor.{Fit, IsAfter, Stops, StopsHere, end_of, words_left}
-use Rattle.word_text.specs.Grammar.{Kind, ValueOf, AreOf, AreSpelled, IsSpelled, Values, has_list, is_list}
+use Rattle.word_text.specs.Grammar.{Kind, ValueOf, AreOf, IsSpelled, has_list, is_list}
 use Rattle.script_reader.specs.Languages.{Language}
 use Rattle.script_reader.specs.Lines.{SaysSo, script}
 use Rattle.script_reader.specs.Rows.{kinds_of}
-use Rattle.word_text.specs.Slots.{filled, list_with, listed, nothing}
+use Rattle.word_text.specs.Slots.{listed, put}
 use Rattle.script_reader.specs.Words.{texts}
 
 -- so many words are of these kinds, and the next one isn't
@@ -37,20 +37,10 @@ abbrev pub Finds : Words → Result Form ℕ → Type 0
 Finds cursor (Ok form) = AreOf (kinds_of form) (texts (words_left cursor))
 Finds cursor (Err column) = FitsFarthest script cursor column
 
--- the values of words of these kinds
-abbrev pub ReadsValues : List Kind → List (List ℕ) → Option Slots → Type 0
-ReadsValues kinds words None = AreOf kinds words → ⊥
-ReadsValues kinds words (Some v) = AreOf kinds words → (values : Values kinds) × AreSpelled kinds values words × (v ≡ filled kinds values nothing)
-
--- the ranges in words of these kinds were appended
-abbrev pub ReadsList : {T : Type 0} → List Kind → List (List ℕ) → List UidRange → List UidRange → Result T AllocError → Type 0
-ReadsList kinds words old new (Ok done) = (values : Values kinds) → AreSpelled kinds values words → new ≡ list_with kinds values old
-ReadsList kinds words old new (Err fault) = has_list kinds ≡ true
-
--- the ranges in a word of this kind were appended
-abbrev pub TakesList : {T : Type 0} → Kind → List ℕ → List UidRange → List UidRange → Result T AllocError → Type 0
-TakesList kind text old new (Ok done) = (value : ValueOf kind) → IsSpelled kind value text → new ≡ listed kind value old
-TakesList kind text old new (Err fault) = is_list kind ≡ true
+-- the value that a word of this kind spells was put, and its ranges were appended
+abbrev pub TakesWord : {T : Type 0} → Kind → List ℕ → Slots → Slots → List UidRange → List UidRange → Result T AllocError → Type 0
+TakesWord kind text v w old new (Ok done) = (value : ValueOf kind) → IsSpelled kind value text → (w ≡ put kind value v) × (new ≡ listed kind value old)
+TakesWord kind text v w old new (Err fault) = is_list kind ≡ true
 
 -- the line of the words, which are of this form
 abbrev pub ReadsForm : Form → Words → Result Line AllocError → Type 0

@@ -1,10 +1,9 @@
-ghost use Rattle.std.specs.Prelude.{◌≡◌, ◌⊎◌, ◌≤◌, true, length, take, IfOk, IfErr, MatchOption};
-ghost use Rattle.std.specs.List.{list_all};
+ghost use Rattle.std.specs.Prelude.{◌≡◌, ◌⊎◌, IfOk, IfErr, MatchOption};
 ghost use Rattle.script_reader.specs.BadLines.{HasBadByte, IfBad, IfMemory, IsBadAt, IsTooLong};
 ghost use Rattle.script_reader.specs.Cursor.{words_left};
-ghost use Rattle.script_reader.specs.Finds.{ReadsForm, ReadsList, ReadsValues, TakesList};
+ghost use Rattle.script_reader.specs.Finds.{ReadsForm, TakesWord};
 ghost use Rattle.word_text.specs.Grammar.{AreOf};
-ghost use Rattle.word_text.specs.Kinds.{kind_of, kinds_in};
+ghost use Rattle.word_text.specs.Kinds.{kind_of};
 ghost use Rattle.script_reader.specs.Lines.{IsText, Spells, SpellsList, is_printable};
 ghost use Rattle.script_reader.specs.Rows.{kinds_of};
 ghost use Rattle.script_reader.specs.Words.{texts};
@@ -47,59 +46,41 @@ fn bad_byte(text: &[u8]) -> Option<u32>
     None
 }
 
-/// The values of words of these kinds.
-fn read_values(kinds: &[Kind], mut words: Words<'_>) -> Option<Values>
-    ensures { ReadsValues (kinds_in kinds.now) (texts (words_left words.entry)) result }
-{
-    let mut values = Values::nothing();
-    for kind in kinds {
-        values.read(*kind, words.first()?)?;
-        words.advance();
-    }
-    Some(values)
-}
-
-/// Appends the ranges in a word of this kind.
-fn take_list(kind: Kind, word: &[u8], list: &mut Vec<UidRange>) -> Result<(), AllocError>
-    ensures { TakesList (kind_of kind) word.now list.old.items list.new.items result }
+/// Keeps what a word of this kind says: a value by its name, or ranges after those of the list.
+fn take_word(
+    kind: Kind,
+    word: &[u8],
+    values: &mut Values,
+    list: &mut Vec<UidRange>,
+) -> Result<(), AllocError>
+    ensures { TakesWord (kind_of kind) word.now
+        values.old values.new
+        list.old.items list.new.items result }
 {
     if let Kind::Ranges = kind {
         let _ = read_ranges(word, list)?;
-    }
-    Ok(())
-}
-
-/// Appends the ranges in words of these kinds.
-fn read_list(
-    kinds: &[Kind],
-    mut words: Words<'_>,
-    list: &mut Vec<UidRange>,
-) -> Result<(), AllocError>
-    ensures { ReadsList (kinds_in kinds.now) (texts (words_left words.entry))
-        list.old.items list.new.items result }
-{
-    for kind in kinds {
-        let Some(word) = words.first() else {
-            return Ok(());
-        };
-        take_list(*kind, word, list)?;
-        words.advance();
+    } else {
+        let _ = values.read(kind, word);
     }
     Ok(())
 }
 
 /// The line of the words, which are of this form.
-fn read_form(alloc: Global, form: Form, words: Words<'_>) -> Result<Line, AllocError>
+fn read_form(alloc: Global, form: Form, mut words: Words<'_>) -> Result<Line, AllocError>
     requires { AreOf (kinds_of form) (texts (words_left words)) }
     ensures { ReadsForm form words.entry result }
 {
     let kinds = form.kinds();
+    let mut values = Values::nothing();
     let mut list = Vec::new(alloc);
-    read_list(kinds, words, &mut list)?;
-    match read_values(kinds, words) {
-        Some(values) => Ok(say(form, &values, Ranges::of(list))),
-        None => unreachable!(),
+    for kind in kinds {
+        let Some(word) = words.first() else {
+            unreachable!()
+        };
+        take_word(*kind, word, &mut values, &mut list)?;
+        words.advance();
     }
+    Ok(say(form, &values, Ranges::of(list)))
 }
 
 /// The line that the text spells, without its line feed.
