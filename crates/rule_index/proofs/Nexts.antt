@@ -202,16 +202,16 @@ module _ (rules : List Rule) (order keyed : List Spot) (ix : IsIndex rules order
             ∙ fits-at (from + j) (omega arith) lt' k.0 (each-in (Stands rules) k.0 keyed ix.stand k.1) k.2 ∙ miss
 
 -- the first of a list's rules from a place on, where that at the place matches, and where there is none
-pub match-here : (p : Packet) (rs : List Rule) (from place : ℕ) (r : Rule) → slice_get rs from ≡ Some r → matches r p ≡ true → first_match p place (drop from rs) ≡ Some (found_at place r)
-match-here p [] from place r at m = absurd (none-some r at)
-match-here p (x ∷ rs) zero place r at m = let e : x ≡ r = same_Some x r at in rw (e, m) refl
-match-here p (x ∷ rs) (suc n) place r at m = match-here p rs n place r at m
+pub match-here : (p : Packet) (rs : List Rule) (from start : ℕ) (r : Rule) → slice_get rs from ≡ Some r → matches r p ≡ true → first_match p start (drop from rs) ≡ Some (found_at start r)
+match-here p [] from start r at m = absurd (none-some r at)
+match-here p (x ∷ rs) zero start r at m = let e : x ≡ r = same_Some x r at in rw (e, m) refl
+match-here p (x ∷ rs) (suc n) start r at m = match-here p rs n start r at m
 
-pub match-past : (p : Packet) (rs : List Rule) (from place : ℕ) → slice_get rs from ≡ None → first_match p place (drop from rs) ≡ None
-match-past p [] zero place h = refl
-match-past p [] (suc n) place h = refl
-match-past p (x ∷ rs) zero place h = absurd (none-some x (sym h))
-match-past p (x ∷ rs) (suc n) place h = match-past p rs n place h
+pub match-past : (p : Packet) (rs : List Rule) (from start : ℕ) → slice_get rs from ≡ None → first_match p start (drop from rs) ≡ None
+match-past p [] zero start h = refl
+match-past p [] (suc n) start h = refl
+match-past p (x ∷ rs) zero start h = absurd (none-some x (sym h))
+match-past p (x ∷ rs) (suc n) start h = match-past p rs n start h
 
 drop-none : (rules : List Rule) (os : List Spot) (n : ℕ) → slice_get os n ≡ None → drop n (list_of rules os) ≡ []
 drop-none rules [] zero h = refl

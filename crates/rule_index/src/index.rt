@@ -83,6 +83,11 @@ impl RuleStore for RuleIndex {
     }
 
     fn next_match(&self, packet: &Packet, from: u64) -> Option<FoundRule> {
+        // Often it is the rule at the place itself.
+        let rule = self.rule_at(from)?;
+        if rule.matches(packet) {
+            return Some(FoundRule { place: from, rule });
+        }
         next_in(&self.rules, &self.order, &self.keyed, packet, from as usize)
     }
 }
@@ -103,8 +108,8 @@ fn rule_in(rules: &[Rule], order: &Runs, keyed: &Runs, place: usize) -> Option<R
     }
 }
 
-// The first rule that matches, from this place on, looked for by what rules select.
-fn search_in(
+// The first rule that matches, from a place on, looked for by what rules select.
+fn next_in(
     rules: &[Rule],
     order: &Runs,
     keyed: &Runs,
@@ -126,25 +131,4 @@ fn search_in(
         Some(rule) => Some(FoundRule { place, rule }),
         None => None,
     }
-}
-
-// The first rule that matches, from this place on. Where it is the one at the place, as it often is, none is looked for.
-fn next_in(
-    rules: &[Rule],
-    order: &Runs,
-    keyed: &Runs,
-    packet: &Packet,
-    from: usize,
-) -> Option<FoundRule>
-    requires { IsIndexed rules.now order.now.numbers keyed.now.numbers }
-    ensures { result ≡ next_match (listed_of rules.now order.now.numbers) packet.now from }
-{
-    let Some(rule) = rule_in(rules, order, keyed, from) else {
-        return None;
-    };
-    if rule.matches(packet) {
-        let place = from as u64;
-        return Some(FoundRule { place, rule });
-    }
-    search_in(rules, order, keyed, packet, from)
 }
